@@ -1,0 +1,1 @@
+// The book type: every limit of a book.

@@ -1,0 +1,55 @@
+-- Standardising, document 01: names are atoms 0 to n - 1, and each rule whose head has two or more rules gets a further atom,
+-- its helper, in book order. Each rule thus has one home: its helper where it has one, else its head.
+-- Assumes nothing.
+use mathlib.Core.Bool.{Bool, true, false, not, _&&_}
+use Prim.Native.Nat.{ℕ, _+_}
+use lib.Dec.{eqb, leb}
+use Rattle.sets.specs.Set.{Set, pick, some, count, only}
+use Rattle.program.specs.Program.{Program, size, headAt, bodyAt}
+use Rattle.program.specs.System.{System}
+
+-- the number of rules for name a
+unfoldable pub ways : Program → ℕ → ℕ
+ways p a = count (size p) (λ j. eqb (headAt p j) a)
+
+-- the head of rule j has two or more rules
+unfoldable pub several : Program → Set
+several p j = leb 2 (ways p (headAt p j))
+
+-- the further atom of rule j, where it has one
+unfoldable pub helper : Program → ℕ → ℕ
+helper p j = p .names + count j (several p)
+
+-- where rule j's body stands
+unfoldable pub home : Program → ℕ → ℕ
+home p j = pick (several p j) (helper p j) (headAt p j)
+
+-- rule j has a body that is not empty
+unfoldable pub full : Program → Set
+full p j = some (p .names) (bodyAt p j)
+
+-- the atoms at which a rule with a body stands: those that c counts
+unfoldable pub bodied : Program → Set
+bodied p i = some (size p) (λ j. eqb (home p j) i && full p j)
+
+-- the "all" row: the body that stands there, else the atom alone
+unfoldable pub allRow : Program → ℕ → Set
+allRow p i k = pick (bodied p i) (some (size p) (λ j. eqb (home p j) i && bodyAt p j k)) (only i k)
+
+-- the "any" row of a name: its helpers
+unfoldable pub anyRow : Program → ℕ → Set
+anyRow p i k = some (size p) (λ j. several p j && (eqb (headAt p j) i && eqb (helper p j) k))
+
+-- the start set: the homes of rules with an empty body
+unfoldable pub startSet : Program → Set
+startSet p i = some (size p) (λ j. eqb (home p j) i && not (full p j))
+
+unfoldable pub standard : Program → System
+standard p =
+    record {
+      atoms = helper p (size p);
+      all = allRow p;
+      any = anyRow p;
+      start = startSet p;
+      counted = bodied p;
+    }

@@ -1,0 +1,1 @@
+// Definite programs, and-or systems, standardising: mathematics only, in specs/ and proofs/.

@@ -1,0 +1,1 @@
+// Finite sets and monotone steps on them: mathematics only, in specs/ and proofs/.
