@@ -2,8 +2,8 @@
 -- Document 01: "Rounds start from the start set and stop at the first round that changes nothing. That last round is counted."
 -- Assumes nothing.
 use mathlib.Core.Bool.{Bool, true, false}
-use Prim.Native.Nat.{ℕ, zero, suc}
-use Rattle.sets.specs.Set.{Set, Within, same}
+use Prim.Native.Nat.{ℕ, zero, suc, _<_}
+use Rattle.sets.specs.Set.{Set, Within, Same, same}
 
 -- a larger set goes to a larger set
 abbrev pub Monotone : ℕ → (Set → Set) → Type 0
@@ -32,3 +32,14 @@ rounds n F f = roundsIn (suc n) n F f
 unfoldable pub reached : ℕ → (Set → Set) → Set → Set
 unfolding rounds after
 reached n F f = after (rounds n F f) F f
+
+-- g is the least set that has f and is closed under the step
+pub record Least (n : ℕ) (F : Set → Set) (f g : Set) : Type 0 where
+  pub contains : Within n f g
+  pub closed : Closed n F g
+  pub least : (k : Set) → Within n f k → Closed n F k → Within n g k
+
+-- q rounds change something, and the next one nothing: the rounds are q + 1
+pub record First (n : ℕ) (F : Set → Set) (f : Set) (q : ℕ) : Type 0 where
+  pub still : Same n (F (after q F f)) (after q F f)
+  pub before : (t : ℕ) → t < q → Same n (F (after t F f)) (after t F f) → ⊥

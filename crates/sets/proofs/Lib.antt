@@ -1,0 +1,4 @@
+pub mod Logic
+pub mod Tests
+pub mod Counting
+pub mod Rounds

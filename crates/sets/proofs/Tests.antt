@@ -1,0 +1,114 @@
+-- The computed tests decide what they are for.
+-- Assumes nothing.
+use mathlib.Core.Path.{_≡_, refl, sym, ap, _∙_, subst}
+use mathlib.Core.Logic.{⊎-elim}
+use mathlib.Core.Bool.{Bool, true, false, not, _&&_, _||_, Bool·beq}
+use Prim.Native.Nat.{ℕ, zero, suc, _≤_, _<_, _+_}
+use native.Mathlib.Nat.{not-suc-le-zero, eq-or-lt-of-le, le-of-suc-le-suc}
+use native.Mathlib.Omega.{arith}
+use lib.Dec.{eqb}
+use borrow.Author.Tests.{eqb-true, eq-eqb}
+use Rattle.sets.specs.Set.{Set, Within, Same, every, some, within, meets, same, only}
+use Rattle.sets.proofs.Logic.{either, clash, not-true, iff, and-left, and-right, and-make, or-left, or-right, or-elim, or-none, not-of-true, of-not, not-of-false, beq-eq, beq-refl}
+
+-- what holds below n and at n holds below n + 1
+pub below-suc : (P : ℕ → Type 0) (n : ℕ) → ((i : ℕ) → i < n → P i) → P n → (i : ℕ) → i < suc n → P i
+below-suc P n all here i l = ⊎-elim (λ e. subst P (sym e) here) (λ lt. all i lt) (eq-or-lt-of-le (le-of-suc-le-suc l))
+
+pub every-at : (n : ℕ) (p : Set) → every n p ≡ true → (i : ℕ) → i < n → p i ≡ true
+unfolding every
+every-at zero p e i l = absurd (not-suc-le-zero l)
+every-at (suc n) p e i l =
+    below-suc (λ i. p i ≡ true) n (every-at n p (and-right (p n) (every n p) e)) (and-left (p n) (every n p) e) i l
+
+pub every-make : (n : ℕ) (p : Set) → ((i : ℕ) → i < n → p i ≡ true) → every n p ≡ true
+unfolding every
+every-make zero p h = refl
+every-make (suc n) p h = and-make (h n (omega arith)) (every-make n p (λ i l. h i (omega arith)))
+
+pub some-make : (n : ℕ) (p : Set) (i : ℕ) → i < n → p i ≡ true → some n p ≡ true
+unfolding some
+some-make zero p i l e = absurd (not-suc-le-zero l)
+some-make (suc n) p i l e =
+    ⊎-elim (λ q. or-left (some n p) (subst (λ k. p k ≡ true) q e)) (λ lt. or-right (p n) (some-make n p i lt e))
+    (eq-or-lt-of-le (le-of-suc-le-suc l))
+
+pub some-find : (n : ℕ) (p : Set) → some n p ≡ true → (i : ℕ) × (i < n) × (p i ≡ true)
+unfolding some
+some-find zero p e = clash e refl
+some-find (suc n) p e =
+    or-elim (p n) (some n p) e (λ q. (n, omega arith, q))
+    (λ q. let r = some-find n p q in let l : r .0 < n = r .1 in (r .0, omega arith, r .2))
+
+pub some-none : (n : ℕ) (p : Set) → some n p ≡ false → (i : ℕ) → i < n → p i ≡ false
+some-none n p e i l = not-true (p i) (λ t. clash (some-make n p i l t) e)
+
+pub none-some : (n : ℕ) (p : Set) → ((i : ℕ) → i < n → p i ≡ false) → some n p ≡ false
+none-some n p h = not-true (some n p) (λ t. let r = some-find n p t in clash (r .2) (h (r .0) (r .1)))
+
+pub within-at : (n : ℕ) (f g : Set) → within n f g ≡ true → Within n f g
+unfolding within
+within-at n f g e i l p =
+    or-elim (not (f i)) (g i) (every-at n (λ i. not (f i) || g i) e i l) (λ q. clash p (of-not (f i) q)) (λ q. q)
+
+pub within-make : (n : ℕ) (f g : Set) → Within n f g → within n f g ≡ true
+unfolding within
+within-make n f g h =
+    every-make n (λ i. not (f i) || g i)
+    (λ i l. either (f i) (λ t. or-right (not (f i)) (h i l t)) (λ e. or-left (g i) (not-of-false (f i) e)))
+
+pub meets-make : (n : ℕ) (f g : Set) (i : ℕ) → i < n → f i ≡ true → g i ≡ true → meets n f g ≡ true
+unfolding meets
+meets-make n f g i l p q = some-make n (λ i. f i && g i) i l (and-make p q)
+
+pub meets-find : (n : ℕ) (f g : Set) → meets n f g ≡ true → (i : ℕ) × (i < n) × (f i ≡ true) × (g i ≡ true)
+unfolding meets
+meets-find n f g e =
+    let r = some-find n (λ i. f i && g i) e in
+    let i : ℕ = r .0 in
+    (i, r .1, and-left (f i) (g i) (r .2), and-right (f i) (g i) (r .2))
+
+pub same-at : (n : ℕ) (f g : Set) → same n f g ≡ true → Same n f g
+unfolding same
+same-at n f g e i l = beq-eq (f i) (g i) (every-at n (λ i. Bool·beq (f i) (g i)) e i l)
+
+pub same-make : (n : ℕ) (f g : Set) → Same n f g → same n f g ≡ true
+unfolding same
+same-make n f g h = every-make n (λ i. Bool·beq (f i) (g i)) (λ i l. beq-refl (f i) (g i) (h i l))
+
+-- sets that lie within each other are the same
+pub both-within : (n : ℕ) (f g : Set) → Within n f g → Within n g f → Same n f g
+both-within n f g p q i l = iff (f i) (g i) (p i l) (q i l)
+
+pub same-within : (n : ℕ) (f g : Set) → Same n f g → Within n f g
+same-within n f g s i l p = sym (s i l) ∙ p
+
+pub same-sym : (n : ℕ) (f g : Set) → Same n f g → Same n g f
+same-sym n f g s i l = sym (s i l)
+
+pub same-trans : (n : ℕ) (f g k : Set) → Same n f g → Same n g k → Same n f k
+same-trans n f g k s t i l = s i l ∙ t i l
+
+-- the tests see only what lies below n
+pub some-same : (n : ℕ) (f g : Set) → Same n f g → some n f ≡ some n g
+some-same n f g s =
+    iff (some n f) (some n g) (λ t. let r = some-find n f t in some-make n g (r .0) (r .1) (sym (s (r .0) (r .1)) ∙ r .2))
+    (λ t. let r = some-find n g t in some-make n f (r .0) (r .1) (s (r .0) (r .1) ∙ r .2))
+
+pub within-same : (n : ℕ) (f f′ g g′ : Set) → Same n f f′ → Same n g g′ → within n f g ≡ within n f′ g′
+within-same n f f′ g g′ s t =
+    iff (within n f g) (within n f′ g′)
+    (λ e. within-make n f′ g′ (λ i l p. sym (t i l) ∙ within-at n f g e i l (s i l ∙ p)))
+    (λ e. within-make n f g (λ i l p. t i l ∙ within-at n f′ g′ e i l (sym (s i l) ∙ p)))
+
+pub meets-same : (n : ℕ) (f f′ g g′ : Set) → Same n f f′ → Same n g g′ → meets n f g ≡ meets n f′ g′
+meets-same n f f′ g g′ s t =
+    iff (meets n f g) (meets n f′ g′)
+    (λ e. let r = meets-find n f g e in meets-make n f′ g′ (r .0) (r .1) (sym (s (r .0) (r .1)) ∙ r .2) (sym (t (r .0) (r .1)) ∙ r .3))
+    (λ e. let r = meets-find n f′ g′ e in meets-make n f g (r .0) (r .1) (s (r .0) (r .1) ∙ r .2) (t (r .0) (r .1) ∙ r .3))
+
+-- a set of one lies within v where v has it
+pub only-within : (n i : ℕ) (v : Set) → i < n → within n (only i) v ≡ v i
+only-within n i v l =
+    iff (within n (only i) v) (v i) (λ e. within-at n (only i) v e i l (eq-eqb i i refl))
+    (λ e. within-make n (only i) v (λ k m q. subst (λ x. v x ≡ true) (eqb-true i k q) e))
