@@ -45,6 +45,10 @@ pub record Sound (p : Program) : Type 0 where
 abbrev pub Model : Program → Set → Type 0
 Model p M = (j : ℕ) → j < size p → Within (p .names) (bodyAt p j) M → M (headAt p j) ≡ true
 
+-- name a lies in every model
+abbrev pub InEveryModel : Program → ℕ → Type 0
+InEveryModel p a = (M : Set) → Model p M → M a ≡ true
+
 -- the immediate consequences of v: the heads of rules whose body lies in v
 unfoldable pub consequence : Program → Set → Set
 consequence p v a = some (size p) (λ j. eqb (headAt p j) a && within (p .names) (bodyAt p j) v)

@@ -18,10 +18,14 @@ pub record System : Type 0 where
 unfoldable pub anyHead : System → Set
 anyHead s i = some (s .atoms) (s .any i)
 
+-- the atoms whose row lies within v
+unfoldable pub allStep : ℕ → (ℕ → Set) → Set → Set
+allStep m rows v i = within m (rows i) v
+
 -- One round over v: an atom with a non-empty "any" row is in the next set if that row meets v;
 -- another atom is in it if its "all" row lies within v.
 unfoldable pub round : System → Set → Set
-round s v i = pick (anyHead s i) (meets (s .atoms) (s .any i) v) (within (s .atoms) (s .all i) v)
+round s v i = pick (anyHead s i) (meets (s .atoms) (s .any i) v) (allStep (s .atoms) (s .all) v i)
 
 -- One fold: new row i is the union of the old rows j for all j in old row i.
 unfoldable pub unfold1 : ℕ → (ℕ → Set) → ℕ → Set
