@@ -1,3 +1,4 @@
 pub mod Plain
 pub mod Folds
 pub mod Alike
+pub mod Bounds
