@@ -2,3 +2,4 @@ pub mod Plain
 pub mod Folds
 pub mod Alike
 pub mod Bounds
+pub mod Systems

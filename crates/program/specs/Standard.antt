@@ -4,7 +4,7 @@
 use mathlib.Core.Bool.{Bool, true, false, not, _&&_}
 use Prim.Native.Nat.{ℕ, _+_}
 use lib.Dec.{eqb, leb}
-use Rattle.sets.specs.Set.{Set, pick, some, count, only}
+use Rattle.sets.specs.Set.{Set, pick, some, count, only, image}
 use Rattle.program.specs.Program.{Program, size, headAt, bodyAt}
 use Rattle.program.specs.System.{System}
 
@@ -30,11 +30,11 @@ full p j = some (p .names) (bodyAt p j)
 
 -- the atoms at which a rule with a body stands: those that c counts
 unfoldable pub bodied : Program → Set
-bodied p i = some (size p) (λ j. eqb (home p j) i && full p j)
+bodied p = image (size p) (home p) (full p)
 
 -- the "all" row: the body that stands there, else the atom alone
 unfoldable pub allRow : Program → ℕ → Set
-allRow p i k = pick (bodied p i) (some (size p) (λ j. eqb (home p j) i && bodyAt p j k)) (only i k)
+allRow p i k = pick (bodied p i) (image (size p) (home p) (λ j. bodyAt p j k) i) (only i k)
 
 -- the "any" row of a name: its helpers
 unfoldable pub anyRow : Program → ℕ → Set
@@ -42,7 +42,7 @@ anyRow p i k = some (size p) (λ j. several p j && (eqb (headAt p j) i && eqb (h
 
 -- the start set: the homes of rules with an empty body
 unfoldable pub startSet : Program → Set
-startSet p i = some (size p) (λ j. eqb (home p j) i && not (full p j))
+startSet p = image (size p) (home p) (λ j. not (full p j))
 
 unfoldable pub standard : Program → System
 standard p =

@@ -70,6 +70,10 @@ union f g i = f i || g i
 abbrev pub minus : Set → Set → Set
 minus f g i = f i && not (g i)
 
+-- the places g j of the members j of f below r
+unfoldable pub image : ℕ → (ℕ → ℕ) → Set → Set
+image r g f i = some r (λ j. eqb (g j) i && f j)
+
 -- the first member of f at or past i within k more numbers, else i + k
 unfoldable pub next : ℕ → Set → ℕ → ℕ
 next zero f i = i
