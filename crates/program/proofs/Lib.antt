@@ -3,3 +3,5 @@ pub mod Folds
 pub mod Alike
 pub mod Bounds
 pub mod Systems
+pub mod Homes
+pub mod Atoms

@@ -1,6 +1,7 @@
 -- Standardising, document 01: names are atoms 0 to n - 1, and each rule whose head has two or more rules gets a further atom,
 -- its helper, in book order. Each rule thus has one home: its helper where it has one, else its head.
 -- Assumes nothing.
+use mathlib.Core.Path.{_≡_}
 use mathlib.Core.Bool.{Bool, true, false, not, _&&_}
 use Prim.Native.Nat.{ℕ, _+_}
 use lib.Dec.{eqb, leb}
@@ -53,3 +54,14 @@ standard p =
       start = startSet p;
       counted = bodied p;
     }
+
+-- Atom i bears the body of rule j: its row is that body; if the body is empty, itself alone, and it is in the start set.
+pub record Bears (p : Program) (j i : ℕ) : Type 0 where
+  pub row : full p j ≡ true → (k : ℕ) → allRow p i k ≡ bodyAt p j k
+  pub fact : full p j ≡ false → (k : ℕ) → allRow p i k ≡ only i k
+  pub start : startSet p i ≡ not (full p j)
+
+-- Atom i has itself alone as its row and is not in the start set.
+pub record Alone (p : Program) (i : ℕ) : Type 0 where
+  pub row : (k : ℕ) → allRow p i k ≡ only i k
+  pub start : startSet p i ≡ false

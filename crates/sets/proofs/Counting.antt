@@ -192,3 +192,11 @@ count-image n (suc r) g f into inj =
     kept : (a b c : Bool) → b ≡ false → (a && b) || c ≡ c
     kept true b c e = rw e
     kept false b c e = refl
+
+-- a set with no member from n on counts up to n
+pub count-tail : (n m : ℕ) (f : Set) → n ≤ m → ((i : ℕ) → n ≤ i → i < m → f i ≡ false) → count m f ≡ count n f
+count-tail n zero f l h = let e : n ≡ 0 = omega arith in ap (λ (k : ℕ). count k f) (sym e)
+count-tail n (suc m) f l h =
+    ⊎-elim (λ e. ap (λ (k : ℕ). count k f) (sym e))
+    (λ lt. count-out m f (h m (le-of-suc-le-suc lt) (omega arith)) ∙ count-tail n m f (le-of-suc-le-suc lt) (λ i a b. h i a (omega arith)))
+    (eq-or-lt-of-le l)
