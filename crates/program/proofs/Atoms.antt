@@ -122,12 +122,12 @@ module _ (p : Program) (sound : Sound p) where
 
   -- c is the number of rules with a body that is not empty
   pub c-rules : c (standard p) ≡ count r (full p)
-  unfolding c standard bodied
+  unfolding c bodied
   c-rules = count-image atoms r (home p) (full p) (home-below p sound) (home-one p sound)
 
   -- h is the number of names with several rules
   pub h-names : h (standard p) ≡ count n (λ a. leb 2 (ways p a))
-  unfolding h standard
+  unfolding h
   h-names =
       let O : Set = anyHead (standard p) in
       count-tail n atoms O (names-below p)
@@ -147,7 +147,6 @@ module _ (p : Program) (sound : Sound p) where
 
   -- the rows, the start set and the counted atoms are those of a regular system
   pub regular : Regular (standard p)
-  unfolding standard
   regular = record {
     kept = λ i l d k b. unfold allRow in (pick-false (image r (home p) (λ j. bodyAt p j k) i) (only i k) d);
     heads = λ i l o. not-true (bodied p i) (λ t.

@@ -124,11 +124,11 @@ module _ (p : Program) where
 
   -- an "any" head is the head of several rules
   pub head-make : (j : ℕ) → j < r → several p j ≡ true → anyHead (standard p) (headAt p j) ≡ true
-  unfolding anyHead standard
+  unfolding anyHead
   head-make j l s = some-make atoms (anyRow p (headAt p j)) (helper p j) (helper-below j l s) (any-make j l s)
 
   pub head-find : (i : ℕ) → anyHead (standard p) i ≡ true → (j : ℕ) × (j < r) × (several p j ≡ true) × (headAt p j ≡ i)
-  unfolding anyHead standard
+  unfolding anyHead
   head-find i e =
       let q = some-find atoms (anyRow p i) e in
       let f = any-find i (q .0) (q .2) in

@@ -5,3 +5,4 @@ pub mod Bounds
 pub mod Systems
 pub mod Homes
 pub mod Atoms
+pub mod Models

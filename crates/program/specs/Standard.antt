@@ -45,7 +45,8 @@ anyRow p i k = some (size p) (λ j. several p j && (eqb (headAt p j) i && eqb (h
 unfoldable pub startSet : Program → Set
 startSet p = image (size p) (home p) (λ j. not (full p j))
 
-unfoldable pub standard : Program → System
+-- the rows, the start set and the counted atoms of a program
+abbrev pub standard : Program → System
 standard p =
     record {
       atoms = helper p (size p);
