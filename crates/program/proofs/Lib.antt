@@ -6,3 +6,4 @@ pub mod Systems
 pub mod Homes
 pub mod Atoms
 pub mod Models
+pub mod Samples

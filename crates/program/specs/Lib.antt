@@ -1,3 +1,4 @@
 pub mod Program
 pub mod System
 pub mod Standard
+pub mod Samples
