@@ -7,3 +7,4 @@ pub mod Homes
 pub mod Atoms
 pub mod Models
 pub mod Samples
+pub mod Theorems

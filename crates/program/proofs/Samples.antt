@@ -7,7 +7,8 @@ use Rattle.sets.specs.Steps.{after, roundsIn, rounds, reached}
 use Rattle.program.specs.Program.{consequence, plainHeld}
 use Rattle.program.specs.System.{anyHead, allStep, round, unfold1, unfolded, roundsOf, heldBy, c, h}
 use Rattle.program.specs.Standard.{ways, several, helper, home, full, bodied, allRow, anyRow, startSet}
-use Rattle.program.specs.Samples.{listed, runAgrees, runsAgree, agrees, allAgree, samples, foldedRows}
+use Rattle.program.specs.Samples.{listed, runAgrees, runsAgree, agrees, allAgree}
+use Rattle.program.specs.Table.{samples, foldedRows}
 
 pub samples-agree : allAgree samples ≡ true
 unfolding pick every some count within meets same image after roundsIn rounds reached consequence plainHeld anyHead allStep round unfold1 unfolded roundsOf heldBy c h ways several helper home full bodied allRow anyRow startSet listed runAgrees runsAgree agrees allAgree

@@ -2,3 +2,4 @@ pub mod Logic
 pub mod Tests
 pub mod Counting
 pub mod Rounds
+pub mod Theorems

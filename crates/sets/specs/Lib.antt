@@ -1,2 +1,3 @@
 pub mod Set
 pub mod Steps
+pub mod Claims
