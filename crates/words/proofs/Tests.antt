@@ -10,7 +10,7 @@ use lib.Dec.{ltb}
 use borrow.Author.Tests.{ltb-true, ltb-false}
 use Rattle.sets.specs.Set.{Set, Same, pick, every, some, count, within, meets, same, next}
 
--- one of two roads, by a test, each with what the test said
+-- by cases on a test, each case with what the test said
 pub either : {X : Type 0} (b : Bool) → (b ≡ true → X) → (b ≡ false → X) → X
 either true f g = f refl
 either false f g = g refl
@@ -20,7 +20,7 @@ pub both : (a b : Bool) → a && b ≡ true → (a ≡ true) × (b ≡ true)
 both true b e = (refl, e)
 both false b e = absurd (true≢false (sym e))
 
--- two tests that hold together are equal
+-- two tests that hold in the same cases are equal
 pub iff : (a b : Bool) → (a ≡ true → b ≡ true) → (b ≡ true → a ≡ true) → a ≡ b
 iff true b f g = sym (f refl)
 iff false true f g = g refl
@@ -154,7 +154,7 @@ first-le k f i r s p q =
     absurd (true≢false (sym (p .1 (omega (arith, q .3))) ∙ q .0 r (p .2) l)))
     (λ e. ltb-false r s e)
 
--- and nothing else is
+-- and no other number is
 pub next-unique : (k : ℕ) (f : Set) (i r : ℕ)
     → i ≤ r → r ≤ i + k → ((j : ℕ) → i ≤ j → j < r → f j ≡ false) → (r < i + k → f r ≡ true) → r ≡ next k f i
 next-unique k f i r low high before at =
