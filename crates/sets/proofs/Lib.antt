@@ -1,5 +1,6 @@
 pub mod Logic
 pub mod Tests
 pub mod Counting
+pub mod Ranges
 pub mod Rounds
 pub mod Theorems

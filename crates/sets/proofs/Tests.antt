@@ -1,10 +1,10 @@
 -- The computed tests decide what they are for.
 -- Assumes nothing.
-use mathlib.Core.Path.{_≡_, refl, sym, ap, _∙_, subst}
+use mathlib.Core.Path.{_≡_, refl, sym, ap, ap₂, _∙_, subst}
 use mathlib.Core.Logic.{⊎-elim}
 use mathlib.Core.Bool.{Bool, true, false, not, _&&_, _||_, Bool·beq}
 use Prim.Native.Nat.{ℕ, zero, suc, _≤_, _<_, _+_}
-use native.Mathlib.Nat.{not-suc-le-zero, eq-or-lt-of-le, le-of-suc-le-suc}
+use native.Mathlib.Nat.{not-suc-le-zero, eq-or-lt-of-le, le-of-suc-le-suc, lt-suc-self, le-step}
 use native.Mathlib.Omega.{arith}
 use lib.Dec.{eqb}
 use borrow.Author.Tests.{eqb-true, eq-eqb}
@@ -89,23 +89,45 @@ same-sym n f g s i l = sym (s i l)
 pub same-trans : (n : ℕ) (f g k : Set) → Same n f g → Same n g k → Same n f k
 same-trans n f g k s t i l = s i l ∙ t i l
 
--- the tests see only what lies below n
+-- tests that are the same below n hold alike of every number
+pub every-same : (n : ℕ) (f g : Set) → Same n f g → every n f ≡ every n g
+unfolding every
+every-same zero f g h = refl
+every-same (suc n) f g h = ap₂ _&&_ (h n (lt-suc-self n)) (every-same n f g (λ i l. h i (le-step l)))
+
+-- and alike of some number
 pub some-same : (n : ℕ) (f g : Set) → Same n f g → some n f ≡ some n g
-some-same n f g s =
-    iff (some n f) (some n g) (λ t. let r = some-find n f t in some-make n g (r .0) (r .1) (sym (s (r .0) (r .1)) ∙ r .2))
-    (λ t. let r = some-find n g t in some-make n f (r .0) (r .1) (s (r .0) (r .1) ∙ r .2))
+unfolding some
+some-same zero f g h = refl
+some-same (suc n) f g h = ap₂ _||_ (h n (lt-suc-self n)) (some-same n f g (λ i l. h i (le-step l)))
 
+-- sets that are the same below n lie within one another alike
 pub within-same : (n : ℕ) (f f′ g g′ : Set) → Same n f f′ → Same n g g′ → within n f g ≡ within n f′ g′
-within-same n f f′ g g′ s t =
-    iff (within n f g) (within n f′ g′)
-    (λ e. within-make n f′ g′ (λ i l p. sym (t i l) ∙ within-at n f g e i l (s i l ∙ p)))
-    (λ e. within-make n f g (λ i l p. t i l ∙ within-at n f′ g′ e i l (sym (s i l) ∙ p)))
+unfolding within
+within-same n f f′ g g′ p q =
+    every-same n (λ i. not (f i) || g i) (λ i. not (f′ i) || g′ i) (λ i l. ap₂ (λ (x y : Bool). not x || y) (p i l) (q i l))
 
+-- and meet alike
 pub meets-same : (n : ℕ) (f f′ g g′ : Set) → Same n f f′ → Same n g g′ → meets n f g ≡ meets n f′ g′
-meets-same n f f′ g g′ s t =
-    iff (meets n f g) (meets n f′ g′)
-    (λ e. let r = meets-find n f g e in meets-make n f′ g′ (r .0) (r .1) (sym (s (r .0) (r .1)) ∙ r .2) (sym (t (r .0) (r .1)) ∙ r .3))
-    (λ e. let r = meets-find n f′ g′ e in meets-make n f g (r .0) (r .1) (s (r .0) (r .1) ∙ r .2) (t (r .0) (r .1) ∙ r .3))
+unfolding meets
+meets-same n f f′ g g′ p q =
+    some-same n (λ i. f i && g i) (λ i. f′ i && g′ i) (λ i l. ap₂ _&&_ (p i l) (q i l))
+
+-- and are alike the same
+pub same-same : (n : ℕ) (f f′ g g′ : Set) → Same n f f′ → Same n g g′ → same n f g ≡ same n f′ g′
+unfolding same
+same-same n f f′ g g′ p q =
+    every-same n (λ i. Bool·beq (f i) (g i)) (λ i. Bool·beq (f′ i) (g′ i)) (λ i l. ap₂ Bool·beq (p i l) (q i l))
+
+-- none: not some is every not
+pub not-some : (n : ℕ) (p : Set) → not (some n p) ≡ every n (λ i. not (p i))
+unfolding some every
+not-some zero p = refl
+not-some (suc n) p = not-or (p n) (some n p) ∙ ap (λ (b : Bool). not (p n) && b) (not-some n p)
+  where
+    not-or : (a b : Bool) → not (a || b) ≡ not a && not b
+    not-or true b = refl
+    not-or false b = refl
 
 -- a set of one lies within v where v has it
 pub only-within : (n i : ℕ) (v : Set) → i < n → within n (only i) v ≡ v i

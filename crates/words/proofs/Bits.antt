@@ -14,7 +14,9 @@ use lib.Pow.{pow-pos, pow-mono, shr-shr, high}
 use lib.Count.{ones, ones-step, trailingZeros, under}
 use Rattle.sets.specs.Set.{Set, Same, one, pick, every, some, count, within, meets, same, next}
 use Rattle.words.specs.Row.{bit, binary}
-use Rattle.words.proofs.Tests.{iff, every-same, some-same, count-add, every-at, every-of, not-some}
+use Rattle.sets.proofs.Logic.{iff, beq-eq, beq-refl}
+use Rattle.sets.proofs.Tests.{every-at, every-make, every-same, some-same, not-some}
+use Rattle.sets.proofs.Ranges.{count-add, next-suc}
 
 -- a number below 2 ^ (k + 1) halved is below 2 ^ k
 half-lt : (k a : ℕ) → a < 2 ^ suc k → a / 2 < 2 ^ k
@@ -141,7 +143,7 @@ pub zero-none : (k a : ℕ) → a < 2 ^ k → eqb a 0 ≡ not (some k (bit a))
 zero-none k a h = iff (eqb a 0) (not (some k (bit a))) empty zeros
   where
     empty : eqb a 0 ≡ true → not (some k (bit a)) ≡ true
-    empty e = not-some k (bit a) ∙ every-of k (λ i. not (bit a i)) (λ i l. ap (λ (x : ℕ). not (bit x i)) (eqb-true a 0 e) ∙ ap not (bit-zero i))
+    empty e = not-some k (bit a) ∙ every-make k (λ i. not (bit a i)) (λ i l. ap (λ (x : ℕ). not (bit x i)) (eqb-true a 0 e) ∙ ap not (bit-zero i))
 
     zeros : not (some k (bit a)) ≡ true → eqb a 0 ≡ true
     zeros e =
@@ -178,25 +180,15 @@ pub word-same : (k a b : ℕ) → a < 2 ^ k → b < 2 ^ k → eqb a b ≡ same k
 unfolding same
 word-same k a b p q = iff (eqb a b) (every k (λ i. Bool·beq (bit a i) (bit b i))) alike equal
   where
-    beq-refl : (x : Bool) → Bool·beq x x ≡ true
-    beq-refl true = refl
-    beq-refl false = refl
-
-    beq-true : (x y : Bool) → Bool·beq x y ≡ true → x ≡ y
-    beq-true true true e = refl
-    beq-true true false e = sym e
-    beq-true false true e = e
-    beq-true false false e = refl
-
     alike : eqb a b ≡ true → every k (λ i. Bool·beq (bit a i) (bit b i)) ≡ true
     alike e =
-        every-of k (λ i. Bool·beq (bit a i) (bit b i))
-        (λ i l. ap (λ (x : ℕ). Bool·beq (bit x i) (bit b i)) (eqb-true a b e) ∙ beq-refl (bit b i))
+        every-make k (λ i. Bool·beq (bit a i) (bit b i))
+        (λ i l. ap (λ (x : ℕ). Bool·beq (bit x i) (bit b i)) (eqb-true a b e) ∙ beq-refl (bit b i) (bit b i) refl)
 
     equal : every k (λ i. Bool·beq (bit a i) (bit b i)) ≡ true → eqb a b ≡ true
     equal e =
         eq-eqb a b
-        (bits-equal k a b p q (λ i l. beq-true (bit a i) (bit b i) (every-at k (λ i. Bool·beq (bit a i) (bit b i)) e i l)))
+        (bits-equal k a b p q (λ i l. beq-eq (bit a i) (bit b i) (every-at k (λ i. Bool·beq (bit a i) (bit b i)) e i l)))
 
 -- the bits past the first, as a set
 tail : (w : ℕ) → _≡_ {A = Set} (λ i. bit w (1 + i)) (bit (w / 2))
@@ -213,17 +205,6 @@ ones-count (suc k) w h =
   where
     first : w % 2 ≡ count 1 (bit w)
     first = by-digits (λ x. x ≡ pick (eqb x 1) 1 0) refl refl w ∙ ap (λ (b : Bool). pick b 1 0) (sym (bit-first w))
-
--- the first member from i + 1 is one past that of the set moved down by one
-next-suc : (k : ℕ) (f : Set) (i : ℕ) → next k f (suc i) ≡ suc (next k (λ j. f (suc j)) i)
-unfolding next pick
-next-suc zero f i = refl
-next-suc (suc k) f i =
-    ap (pick (f (suc i)) (suc i)) (next-suc k f (suc i)) ∙ pick-under (f (suc i)) i (next k (λ j. f (suc j)) (suc i))
-  where
-    pick-under : (b : Bool) (x y : ℕ) → pick b (suc x) (suc y) ≡ suc (pick b x y)
-    pick-under true x y = refl
-    pick-under false x y = refl
 
 -- the zeros below the lowest set bit: its place, or k
 pub trailing-next : (k w : ℕ) → trailingZeros k w ≡ next k (bit w) 0

@@ -1,4 +1,3 @@
-pub mod Tests
 pub mod Bits
 pub mod Rows
 pub mod Areas

@@ -16,7 +16,10 @@ use lib.Seq.{getD-take, getD-drop}
 use Rattle.sets.specs.Set.{Set, Same, one, some, count, within, meets, same, none}
 use Rattle.limits.specs.Book.{wordBits}
 use Rattle.words.specs.Row.{bit, row, Words, binary, pack, part}
-use Rattle.words.proofs.Tests.{either, every-add, some-add, count-add, some-same, count-same, within-same, meets-same, same-same}
+use Rattle.sets.proofs.Logic.{either}
+use Rattle.sets.proofs.Tests.{some-same, within-same, meets-same, same-same}
+use Rattle.sets.proofs.Counting.{count-same}
+use Rattle.sets.proofs.Ranges.{every-add, some-add, count-add}
 use Rattle.words.proofs.Bits.{bit-zero, bit-binary, binary-lt, binary-bit, zero-none, and-meets, and-not-within, word-same, ones-count}
 
 -- atom j * 64 + i is bit i of word j
