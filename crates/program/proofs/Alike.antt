@@ -1,12 +1,11 @@
 -- A regular system holds the same atoms for every number N of steps a round, N at least 1.
 -- Assumes nothing.
-use mathlib.Core.Path.{_≡_, refl, sym, ap, _∙_, subst}
-use mathlib.Core.Bool.{Bool, true, false, _&&_}
-use Prim.Native.Nat.{ℕ, zero, suc, _≤_, _<_, _+_}
-use native.Mathlib.Omega.{arith}
-use Rattle.sets.specs.Set.{Set, Within, Same, pick, meets, within, only}
+use mathlib.Core.Path.{_≡_, refl, sym, ap, _∙_}
+use mathlib.Core.Bool.{true, false}
+use Prim.Native.Nat.{ℕ, zero, suc, _<_}
+use Rattle.sets.specs.Set.{Set, Within, Same, meets, only}
 use Rattle.sets.specs.Steps.{Monotone, Closed, Least, after, rounds, reached}
-use Rattle.sets.proofs.Logic.{either, clash, pick-true, pick-false}
+use Rattle.sets.proofs.Logic.{either, pick-true, pick-false}
 use Rattle.sets.proofs.Tests.{within-at, within-make, meets-make, meets-find, within-same, only-within, both-within}
 use Rattle.sets.proofs.Rounds.{after-shift, after-rises, after-start, reached-least}
 use Rattle.program.specs.System.{System, Regular, anyHead, allStep}

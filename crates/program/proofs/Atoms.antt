@@ -1,19 +1,19 @@
 -- The four kinds of rows of document 01, c and h by the rules, and that a standardised program is regular.
 -- Assumes nothing.
-use mathlib.Core.Path.{_≡_, refl, sym, ap, _∙_, subst}
+use mathlib.Core.Path.{_≡_, sym, ap, _∙_, subst}
 use mathlib.Core.Logic.{_↔_}
-use mathlib.Core.Bool.{Bool, true, false, not, _&&_}
-use Prim.Native.Nat.{ℕ, zero, suc, _≤_, _<_, _+_}
+use mathlib.Core.Bool.{true, false, not}
+use Prim.Native.Nat.{ℕ, _≤_, _<_}
 use native.Mathlib.Omega.{arith}
-use lib.Dec.{eqb, leb, ltb}
-use borrow.Author.Tests.{eqb-true, eq-eqb, leb-true, le-leb, lt-leb}
-use Rattle.sets.specs.Set.{Set, Within, Same, pick, some, count, only, image}
-use Rattle.sets.proofs.Logic.{either, clash, not-true, iff, not-of-true, of-not, not-of-false, pick-true, pick-false}
+use lib.Dec.{eqb, leb}
+use borrow.Author.Tests.{eqb-true, eq-eqb, leb-true, le-leb}
+use Rattle.sets.specs.Set.{Set, count, only, image}
+use Rattle.sets.proofs.Logic.{either, clash, not-true, iff, of-not, pick-true, pick-false}
 use Rattle.sets.proofs.Counting.{count-pos, count-some, count-same, count-tail, count-image, image-make, image-find}
 use Rattle.program.specs.Program.{Program, Sound, size, headAt, bodyAt}
-use Rattle.program.specs.System.{System, Regular, anyHead, c, h}
+use Rattle.program.specs.System.{Regular, anyHead, c, h}
 use Rattle.program.specs.Standard.{ways, several, helper, home, full, bodied, allRow, anyRow, startSet, standard, Bears, Alone}
-use Rattle.program.proofs.Homes.{home-several, home-single, several-ways, several-alike, helper-past, names-below, home-below, helper-no-head, home-one, home-not-several, any-make, any-find, head-make, head-find, home-no-head}
+use Rattle.program.proofs.Homes.{home-several, home-single, several-ways, several-alike, helper-past, names-below, home-below, helper-no-head, home-one, any-make, any-find, head-make, head-find, home-no-head}
 
 module _ (p : Program) (sound : Sound p) where
   abbrev n : ℕ

@@ -2,20 +2,20 @@
 -- Assumes nothing.
 use mathlib.Core.Path.{_≡_, refl, sym, ap, _∙_, subst}
 use mathlib.Core.Logic.{_⊎_, inl, inr, ⊎-elim}
-use mathlib.Core.Bool.{Bool, true, false, _&&_}
+use mathlib.Core.Bool.{true, false, _&&_}
 use Prim.Native.Nat.{ℕ, zero, suc, _≤_, _<_, _+_, _*_, _-_}
 use native.Mathlib.Omega.{arith}
 use lib.Dec.{leb}
 use borrow.Author.Tests.{leb-true, leb-false}
 use Rattle.sets.specs.Set.{Set, Within, Same, count, union}
 use Rattle.sets.specs.Steps.{Monotone, Closed, after, rounds}
-use Rattle.sets.proofs.Logic.{either, clash, iff, and-left, and-right, and-make, or-left, or-right}
+use Rattle.sets.proofs.Logic.{either, iff, and-left, and-right, and-make, or-left, or-right}
 use Rattle.sets.proofs.Tests.{same-within, same-sym, both-within}
 use Rattle.sets.proofs.Counting.{count-mono, count-full, count-union}
 use Rattle.sets.proofs.Rounds.{after-rises, after-least, stands, rounds-closed, rounds-join}
 use Rattle.program.specs.System.{System, Regular, anyHead, allStep, c, h}
 use Rattle.program.proofs.Folds.{roundBy, after-add}
-use Rattle.program.proofs.Alike.{all-mono, after-mono, round-head, round-other, round-mono, kept-once, kept-after, kept-head, start-round, support}
+use Rattle.program.proofs.Alike.{all-mono, round-other, round-mono, kept-after, kept-head, start-round, support}
 
 -- once a step leaves a set, it leaves every later one
 still-on : (n : ℕ) (F : Set → Set) → Monotone n F → (g : Set) → Same n (F g) g → (d : ℕ) → Same n (F (after d F g)) (after d F g)

@@ -1,11 +1,11 @@
 -- A fold composes the step over "all" rows with itself, row by row; k folds stand for 2 to the power k steps.
 -- Assumes nothing.
-use mathlib.Core.Path.{_≡_, refl, sym, ap, _∙_, subst, fun-ext}
-use mathlib.Core.Bool.{Bool, true, false, _&&_}
-use Prim.Native.Nat.{ℕ, zero, suc, _≤_, _<_, _+_, _*_, _^_}
-use native.Mathlib.Nat.{zero-add, suc-add, add-suc, pow-suc}
+use mathlib.Core.Path.{_≡_, refl, sym, ap, _∙_, fun-ext}
+use mathlib.Core.Bool.{_&&_}
+use Prim.Native.Nat.{ℕ, zero, suc, _+_, _*_, _^_}
+use native.Mathlib.Nat.{zero-add, suc-add, pow-suc}
 use native.Mathlib.Omega.{arith}
-use Rattle.sets.specs.Set.{Set, Within, some, within, pick, meets}
+use Rattle.sets.specs.Set.{Set, within, pick, meets}
 use Rattle.sets.specs.Steps.{after}
 use Rattle.sets.proofs.Logic.{iff, and-left, and-right, and-make}
 use Rattle.sets.proofs.Tests.{some-make, some-find, within-at, within-make}

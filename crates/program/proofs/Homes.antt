@@ -1,18 +1,18 @@
 -- Each rule has one home among the atoms: homes are one to one, and none is an "any" head.
 -- Assumes nothing.
 use mathlib.Core.Path.{_≡_, refl, sym, ap, _∙_, subst}
-use mathlib.Core.Bool.{Bool, true, false, not, _&&_}
-use Prim.Native.Nat.{ℕ, zero, suc, _≤_, _<_, _+_}
+use mathlib.Core.Bool.{Bool, true, false, _&&_}
+use Prim.Native.Nat.{ℕ, _≤_, _<_}
 use native.Mathlib.Omega.{arith}
 use lib.Dec.{eqb, leb, ltb}
-use borrow.Author.Tests.{eqb-true, eq-eqb, leb-true, le-leb, ltb-true, ltb-false}
-use Rattle.sets.specs.Set.{Set, Within, Same, pick, some, count, only, image}
+use borrow.Author.Tests.{eqb-true, eq-eqb, le-leb, ltb-true, ltb-false}
+use Rattle.sets.specs.Set.{count}
 use Rattle.sets.proofs.Logic.{either, clash, not-true, and-left, and-right, and-make, pick-true, pick-false}
-use Rattle.sets.proofs.Tests.{some-make, some-find, some-none}
-use Rattle.sets.proofs.Counting.{rank-less, rank-one, count-two, count-prefix, image-make, image-find}
-use Rattle.program.specs.Program.{Program, Sound, size, headAt, bodyAt}
-use Rattle.program.specs.System.{System, anyHead}
-use Rattle.program.specs.Standard.{ways, several, helper, home, full, bodied, allRow, anyRow, startSet, standard}
+use Rattle.sets.proofs.Tests.{some-make, some-find}
+use Rattle.sets.proofs.Counting.{rank-less, rank-one, count-two}
+use Rattle.program.specs.Program.{Program, Sound, size, headAt}
+use Rattle.program.specs.System.{anyHead}
+use Rattle.program.specs.Standard.{ways, several, helper, home, anyRow, standard}
 
 module _ (p : Program) where
   abbrev n : ℕ

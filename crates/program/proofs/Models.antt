@@ -2,21 +2,21 @@
 -- Assumes nothing.
 use mathlib.Core.Path.{_≡_, refl, sym, ap, _∙_, subst}
 use mathlib.Core.Logic.{_↔_}
-use mathlib.Core.Bool.{Bool, true, false, not, _&&_}
-use Prim.Native.Nat.{ℕ, zero, suc, _≤_, _<_, _+_, _*_, _^_}
+use mathlib.Core.Bool.{true, false, not, _&&_}
+use Prim.Native.Nat.{ℕ, _≤_, _<_}
 use native.Mathlib.Omega.{arith}
-use lib.Dec.{eqb, leb, ltb}
-use borrow.Author.Tests.{eqb-true, eq-eqb, lt-ltb, le-ltb}
-use Rattle.sets.specs.Set.{Set, Within, Same, pick, some, count, only, image, within, meets}
+use lib.Dec.{ltb}
+use borrow.Author.Tests.{lt-ltb, le-ltb}
+use Rattle.sets.specs.Set.{Set, Within, Same, pick, only, image, within, meets}
 use Rattle.sets.specs.Steps.{Closed, Least}
-use Rattle.sets.proofs.Logic.{either, clash, not-true, iff, and-left, and-right, and-make, not-of-false, pick-true, pick-false}
-use Rattle.sets.proofs.Tests.{some-make, some-find, some-none, within-at, within-make, meets-make, meets-find, within-same, only-within}
+use Rattle.sets.proofs.Logic.{either, clash, iff, and-left, and-right, and-make, not-of-false, pick-true, pick-false}
+use Rattle.sets.proofs.Tests.{some-none, within-at, within-make, meets-make, meets-find, within-same, only-within}
 use Rattle.sets.proofs.Counting.{image-make, image-find}
 use Rattle.program.specs.Program.{Program, Sound, Model, InEveryModel, size, headAt, bodyAt, plainHeld}
-use Rattle.program.specs.System.{System, Regular, anyHead, allStep, round, folded, unfolded, heldBy, roundsOf, c, h}
-use Rattle.program.specs.Standard.{several, helper, home, full, bodied, allRow, anyRow, startSet, standard, Bears, Alone}
-use Rattle.program.proofs.Homes.{home-several, home-single, helper-past, helper-below, helper-one, names-below, home-below, any-make, any-find, head-make, head-find, home-no-head}
-use Rattle.program.proofs.Atoms.{bodied-home, start-home, bears, regular}
+use Rattle.program.specs.System.{System, anyHead, allStep, round, folded, unfolded, heldBy}
+use Rattle.program.specs.Standard.{several, helper, home, full, bodied, allRow, anyRow, startSet, standard}
+use Rattle.program.proofs.Homes.{home-several, home-single, helper-past, helper-below, helper-one, names-below, home-below, any-make, any-find, head-make, home-no-head}
+use Rattle.program.proofs.Atoms.{start-home, bears, regular}
 use Rattle.program.proofs.Systems.{held-alike, held-least}
 use Rattle.program.proofs.Plain.{plain-held}
 

@@ -1,14 +1,14 @@
 -- The plain route reaches the least model.
 -- Assumes nothing.
-use mathlib.Core.Path.{_≡_, refl, sym, ap, _∙_, subst}
+use mathlib.Core.Path.{_≡_, refl, subst}
 use mathlib.Core.Logic.{_↔_}
-use mathlib.Core.Bool.{Bool, true, false, _&&_}
+use mathlib.Core.Bool.{Bool, true, _&&_}
 use Prim.Native.Nat.{ℕ, suc, _≤_, _<_, _+_}
 use native.Mathlib.Omega.{arith}
 use lib.Dec.{eqb}
 use borrow.Author.Tests.{eqb-true, eq-eqb}
 use Rattle.sets.specs.Set.{Set, Within, count, within, none}
-use Rattle.sets.specs.Steps.{Monotone, Closed, Least, after, reached, rounds}
+use Rattle.sets.specs.Steps.{Monotone, Closed, Least, rounds}
 use Rattle.sets.proofs.Logic.{clash, and-left, and-right, and-make, or-right}
 use Rattle.sets.proofs.Tests.{some-make, some-find, within-at, within-make}
 use Rattle.sets.proofs.Counting.{count-le}

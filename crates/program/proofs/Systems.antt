@@ -1,6 +1,6 @@
 -- Regular and-or systems after k folds: held atoms alike, no start atom lost, and the two bounds on the rounds.
 -- Assumes nothing.
-use mathlib.Core.Path.{_≡_, refl, sym, ap, _∙_, subst}
+use mathlib.Core.Path.{_≡_, sym, ap, _∙_, subst}
 use Prim.Native.Nat.{ℕ, suc, _≤_, _+_, _*_, _-_, _^_}
 use lib.Pow.{suc-ones}
 use Rattle.sets.specs.Set.{Set, Within, Same}

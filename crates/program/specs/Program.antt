@@ -2,8 +2,8 @@
 -- Document 01: "A model .. is a set of the book's names that has the head of each rule whose body lies within it."
 -- Assumes nothing.
 use mathlib.Core.Path.{_≡_}
-use mathlib.Core.Bool.{Bool, true, false, _&&_}
-use mathlib.Core.List.{List, [], _∷_}
+use mathlib.Core.Bool.{Bool, true, _&&_}
+use mathlib.Core.List.{List}
 use Prim.Native.Nat.{ℕ, _<_}
 use lib.Dec.{eqb}
 use lib.ListN.{length, getD}

@@ -6,7 +6,7 @@ use Prim.Native.Nat.{ℕ}
 use lib.Dec.{eqb}
 use Rattle.sets.specs.Set.{Set, same}
 use Rattle.program.specs.Program.{Rule, Program, plainHeld}
-use Rattle.program.specs.System.{System, c, h, unfolded, folded, roundsOf, heldBy}
+use Rattle.program.specs.System.{System, c, h, folded, roundsOf, heldBy}
 use Rattle.program.specs.Standard.{standard}
 
 -- the set of the numbers listed

@@ -2,7 +2,7 @@
 -- its helper, in book order. Each rule thus has one home: its helper where it has one, else its head.
 -- Assumes nothing.
 use mathlib.Core.Path.{_≡_}
-use mathlib.Core.Bool.{Bool, true, false, not, _&&_}
+use mathlib.Core.Bool.{true, false, not, _&&_}
 use Prim.Native.Nat.{ℕ, _+_}
 use lib.Dec.{eqb, leb}
 use Rattle.sets.specs.Set.{Set, pick, some, count, only, image}

@@ -1,7 +1,7 @@
 -- And-or systems: rounds and folds over "all" rows and "any" rows, as document 01 has them under "Folds and rounds".
 -- Assumes nothing.
 use mathlib.Core.Path.{_≡_}
-use mathlib.Core.Bool.{Bool, true, false, _&&_}
+use mathlib.Core.Bool.{true, false, _&&_}
 use Prim.Native.Nat.{ℕ, zero, suc, _<_}
 use Rattle.sets.specs.Set.{Set, Same, pick, some, within, meets, only, count}
 use Rattle.sets.specs.Steps.{rounds, reached}

@@ -3,7 +3,6 @@
 -- Assumes nothing.
 use mathlib.Core.Bool.{Bool, _&&_}
 use mathlib.Core.List.{List, [], _∷_}
-use Prim.Native.Nat.{ℕ}
 use Rattle.sets.specs.Set.{same}
 use Rattle.program.specs.System.{System, folded}
 use Rattle.program.specs.Standard.{standard}

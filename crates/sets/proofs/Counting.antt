@@ -2,15 +2,15 @@
 -- Assumes nothing.
 use mathlib.Core.Path.{_≡_, refl, sym, ap, _∙_, subst}
 use mathlib.Core.Logic.{⊎-elim}
-use mathlib.Core.Bool.{Bool, true, false, not, _&&_, _||_}
+use mathlib.Core.Bool.{Bool, true, false, _&&_, _||_}
 use Prim.Native.Nat.{ℕ, zero, suc, _≤_, _<_, _+_}
 use native.Mathlib.Nat.{not-suc-le-zero, eq-or-lt-of-le, le-of-suc-le-suc}
 use native.Mathlib.Omega.{arith}
 use lib.Dec.{eqb, ltb}
 use borrow.Author.Tests.{ltb-true, ltb-false, eqb-true, eq-eqb, ne-eqb}
-use Rattle.sets.specs.Set.{Set, Within, Same, some, count, pick, union, only, image}
-use Rattle.sets.proofs.Logic.{either, clash, not-true, iff, and-left, and-right, and-make, or-elim, pick-true, pick-false, or-left, or-right, or-none}
-use Rattle.sets.proofs.Tests.{same-within, same-sym, some-make, some-find, some-none, none-some}
+use Rattle.sets.specs.Set.{Set, Within, Same, some, count, union, only, image}
+use Rattle.sets.proofs.Logic.{either, not-true, and-left, and-right, and-make, pick-true, pick-false, or-left, or-right}
+use Rattle.sets.proofs.Tests.{same-within, same-sym, some-make, some-find, some-none}
 
 -- one number more, which is a member or not
 pub count-in : (n : ℕ) (f : Set) → f n ≡ true → count (suc n) f ≡ suc (count n f)

@@ -2,7 +2,6 @@
 -- Assumes nothing.
 use mathlib.Core.Path.{_≡_, refl, sym, _∙_}
 use mathlib.Core.Bool.{Bool, true, false, not, _&&_, _||_, Bool·beq, true≢false}
-use Prim.Native.Nat.{ℕ}
 use Rattle.sets.specs.Set.{pick}
 
 -- cases on a computed test, with its equation
@@ -14,14 +13,10 @@ either false t f = f refl
 pub clash : {X : Type 0} {b : Bool} → b ≡ true → b ≡ false → X
 clash t f = absurd (true≢false (sym t ∙ f))
 
--- what cannot hold is false, and what cannot fail is true
+-- what cannot hold is false
 pub not-true : (b : Bool) → (b ≡ true → ⊥) → b ≡ false
 not-true true h = absurd (h refl)
 not-true false h = refl
-
-pub not-false : (b : Bool) → (b ≡ false → ⊥) → b ≡ true
-not-false true h = refl
-not-false false h = absurd (h refl)
 
 -- two tests that hold together are equal
 pub iff : (a b : Bool) → (a ≡ true → b ≡ true) → (b ≡ true → a ≡ true) → a ≡ b
@@ -40,10 +35,6 @@ and-right false b e = clash e refl
 pub and-make : {a b : Bool} → a ≡ true → b ≡ true → a && b ≡ true
 and-make {a} {b} p q = rw (p, q)
 
-pub and-false : (a b : Bool) → a && b ≡ false → a ≡ true → b ≡ false
-and-false true b e p = e
-and-false false b e p = clash p refl
-
 pub or-left : {a : Bool} (b : Bool) → a ≡ true → a || b ≡ true
 or-left b p = rw p
 
@@ -54,14 +45,6 @@ or-right false p = p
 pub or-elim : {X : Type 0} (a b : Bool) → a || b ≡ true → (a ≡ true → X) → (b ≡ true → X) → X
 or-elim true b e f g = f refl
 or-elim false b e f g = g e
-
-pub or-none : (a b : Bool) → a || b ≡ false → (a ≡ false) × (b ≡ false)
-or-none true b e = clash refl e
-or-none false b e = (refl, e)
-
-pub not-of-true : (b : Bool) → b ≡ true → not b ≡ false
-not-of-true true e = refl
-not-of-true false e = clash e refl
 
 pub of-not : (b : Bool) → not b ≡ true → b ≡ false
 of-not true e = sym e

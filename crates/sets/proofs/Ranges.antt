@@ -2,7 +2,7 @@
 -- Assumes nothing.
 use mathlib.Core.Path.{_≡_, refl, sym, ap, _∙_}
 use mathlib.Core.Logic.{⊎-elim}
-use mathlib.Core.Bool.{Bool, true, false, not, _&&_, _||_, and-true, or-false}
+use mathlib.Core.Bool.{Bool, true, false, _&&_, _||_, and-true, or-false}
 use Prim.Native.Nat.{ℕ, zero, suc, _+_, _≤_, _<_}
 use native.Mathlib.Nat.{add-zero, add-suc, le-refl, eq-or-lt-of-le, le-antisymm}
 use native.Mathlib.Omega.{arith}

@@ -2,17 +2,17 @@
 -- Assumes nothing.
 use mathlib.Core.Path.{_≡_, refl, sym, ap, _∙_, subst}
 use mathlib.Core.Logic.{_⊎_, inl, inr, ⊎-elim}
-use mathlib.Core.Bool.{Bool, true, false, not, _&&_, _||_}
-use Prim.Native.Nat.{ℕ, zero, suc, _≤_, _<_, _+_, _-_}
-use native.Mathlib.Nat.{not-suc-le-zero, eq-or-lt-of-le, le-of-suc-le-suc}
+use mathlib.Core.Bool.{true, false}
+use Prim.Native.Nat.{ℕ, zero, suc, _≤_, _<_, _+_}
+use native.Mathlib.Nat.{not-suc-le-zero, le-of-suc-le-suc}
 use native.Mathlib.Omega.{arith}
 use lib.Dec.{leb}
 use borrow.Author.Tests.{leb-true, leb-false}
 use Rattle.sets.specs.Set.{Set, Within, Same, count, same, union}
 use Rattle.sets.specs.Steps.{Monotone, Closed, after, roundsIn, rounds, reached, Least, First}
-use Rattle.sets.proofs.Logic.{either, clash, iff, or-left, or-right}
-use Rattle.sets.proofs.Tests.{same-at, same-make, both-within, same-within, same-sym, same-trans}
-use Rattle.sets.proofs.Counting.{count-le, count-mono, count-full, count-union, count-same}
+use Rattle.sets.proofs.Logic.{either, clash, iff, or-right}
+use Rattle.sets.proofs.Tests.{same-at, same-make, both-within, same-within, same-sym}
+use Rattle.sets.proofs.Counting.{count-le, count-mono, count-full, count-union}
 
 -- the first round may be counted at either end
 pub after-shift : (t : ℕ) (F : Set → Set) (f : Set) → after t F (F f) ≡ after (suc t) F f

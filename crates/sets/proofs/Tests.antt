@@ -3,13 +3,12 @@
 use mathlib.Core.Path.{_≡_, refl, sym, ap, ap₂, _∙_, subst}
 use mathlib.Core.Logic.{⊎-elim}
 use mathlib.Core.Bool.{Bool, true, false, not, _&&_, _||_, Bool·beq}
-use Prim.Native.Nat.{ℕ, zero, suc, _≤_, _<_, _+_}
+use Prim.Native.Nat.{ℕ, zero, suc, _<_}
 use native.Mathlib.Nat.{not-suc-le-zero, eq-or-lt-of-le, le-of-suc-le-suc, lt-suc-self, le-step}
 use native.Mathlib.Omega.{arith}
-use lib.Dec.{eqb}
 use borrow.Author.Tests.{eqb-true, eq-eqb}
 use Rattle.sets.specs.Set.{Set, Within, Same, every, some, within, meets, same, only}
-use Rattle.sets.proofs.Logic.{either, clash, not-true, iff, and-left, and-right, and-make, or-left, or-right, or-elim, or-none, not-of-true, of-not, not-of-false, beq-eq, beq-refl}
+use Rattle.sets.proofs.Logic.{either, clash, not-true, iff, and-left, and-right, and-make, or-left, or-right, or-elim, of-not, not-of-false, beq-eq, beq-refl}
 
 -- what holds below n and at n holds below n + 1
 pub below-suc : (P : ℕ → Type 0) (n : ℕ) → ((i : ℕ) → i < n → P i) → P n → (i : ℕ) → i < suc n → P i
@@ -42,9 +41,6 @@ some-find (suc n) p e =
 
 pub some-none : (n : ℕ) (p : Set) → some n p ≡ false → (i : ℕ) → i < n → p i ≡ false
 some-none n p e i l = not-true (p i) (λ t. clash (some-make n p i l t) e)
-
-pub none-some : (n : ℕ) (p : Set) → ((i : ℕ) → i < n → p i ≡ false) → some n p ≡ false
-none-some n p h = not-true (some n p) (λ t. let r = some-find n p t in clash (r .2) (h (r .0) (r .1)))
 
 pub within-at : (n : ℕ) (f g : Set) → within n f g ≡ true → Within n f g
 unfolding within
@@ -85,9 +81,6 @@ same-within n f g s i l p = sym (s i l) ∙ p
 
 pub same-sym : (n : ℕ) (f g : Set) → Same n f g → Same n g f
 same-sym n f g s i l = sym (s i l)
-
-pub same-trans : (n : ℕ) (f g k : Set) → Same n f g → Same n g k → Same n f k
-same-trans n f g k s t i l = s i l ∙ t i l
 
 -- tests that are the same below n hold alike of every number
 pub every-same : (n : ℕ) (f g : Set) → Same n f g → every n f ≡ every n g

@@ -1,7 +1,7 @@
 -- A step on sets, its rounds from a start, and the least closed set.
 -- Document 01: "Rounds start from the start set and stop at the first round that changes nothing. That last round is counted."
 -- Assumes nothing.
-use mathlib.Core.Bool.{Bool, true, false}
+use mathlib.Core.Bool.{true, false}
 use Prim.Native.Nat.{ℕ, zero, suc, _<_}
 use Rattle.sets.specs.Set.{Set, Within, Same, same}
 

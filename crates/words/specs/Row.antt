@@ -1,6 +1,5 @@
 -- A row is a run of 64-bit words, read as a set: atom a is bit a mod 64 (lowest is 0) of word a div 64.
 -- Assumes nothing.
-use mathlib.Core.Bool.{Bool}
 use mathlib.Core.List.{List, [], _∷_, _++_}
 use Prim.Native.Nat.{ℕ, zero, suc, _+_, _*_, _/_, _%_, _^_, _<_}
 use lib.Dec.{eqb}
