@@ -1,0 +1,2 @@
+// Leaf functions over rows of words, for any width: a row is `width` words from place `at` of a larger area.
+pub mod clear;
