@@ -61,7 +61,7 @@ module _ (F f : ℕ → ℕ → ℕ) (g : Bool → Bool → Bool) (step : (a b :
       ap (λ (x : ℕ). bit x (suc i)) (step a b) ∙ digit-suc (F (a / 2) (b / 2)) (f (a % 2) (b % 2)) i (table a b .0)
       ∙ bitwise-bit i (a / 2) (b / 2) ∙ sym (ap₂ g (bit-suc a i) (bit-suc b i))
 
--- the words' or and and are those of the bits
+-- the or of two words is that of their bits
 pub bit-or : (a b i : ℕ) → bit (bitOr a b) i ≡ bit a i || bit b i
 bit-or a b i = bitwise-bit bitOr max _||_ or-step table i a b
   where
@@ -73,6 +73,7 @@ bit-or a b i = bitwise-bit bitOr max _||_ or-step table i a b
           (by-digits (λ y. eqb (max 1 y) 1 ≡ true) refl refl b) a,
     )
 
+-- and so is the and
 pub bit-and : (a b i : ℕ) → bit (bitAnd a b) i ≡ bit a i && bit b i
 bit-and a b i = bitwise-bit bitAnd min _&&_ and-step table i a b
   where

@@ -1,3 +1,4 @@
 pub mod Tests
 pub mod Bits
 pub mod Rows
+pub mod Areas

@@ -27,7 +27,7 @@ row-word ws j i l =
     let m : (j * wordBits + i) % wordBits ≡ i = omega arith in
     ap₂ (λ (x y : ℕ). bit (getD ws x 0) y) d m
 
--- the atoms of the first word, and those past it
+-- the atoms of the first word
 pub row-here : (w : ℕ) (ws : List ℕ) (a : ℕ) → a < wordBits → row (w ∷ ws) a ≡ bit w a
 unfolding row
 row-here w ws a l =
@@ -35,6 +35,7 @@ row-here w ws a l =
     let m : a % wordBits ≡ a = omega arith in
     ap₂ (λ (x y : ℕ). bit (getD (w ∷ ws) x 0) y) d m
 
+-- the atoms past it are those of the rest
 pub row-next : (w : ℕ) (ws : List ℕ) (a : ℕ) → row (w ∷ ws) (wordBits + a) ≡ row ws a
 unfolding row
 row-next w ws a =
@@ -57,12 +58,13 @@ row-part at w area a l =
     let d : a / wordBits < w = omega arith in
     ap (λ (x : ℕ). bit x (a % wordBits)) (getD-take w (drop at area) (a / wordBits) 0 d ∙ getD-drop at area (a / wordBits) 0)
 
--- a set packed into w words is a row of w words in range
+-- a set packed into w words is w words
 pub length-pack : (w : ℕ) (f : Set) → length (pack w f) ≡ w
 unfolding pack
 length-pack zero f = refl
 length-pack (suc w) f = ap suc (length-pack w (λ a. f (wordBits + a)))
 
+-- in range
 pub words-pack : (w : ℕ) (f : Set) → Words (pack w f)
 unfolding pack
 words-pack zero f k = pow-pos wordBits
@@ -88,13 +90,14 @@ row-pack (suc w) f a l =
     (λ a m. row-next (binary wordBits f) (pack w (λ a. f (wordBits + a))) a ∙ row-pack w (λ a. f (wordBits + a)) a (omega arith))
     a l
 
--- sets that are the same below the bound are packed alike
+-- sets that are the same below k make the same number of k bits
 binary-same : (k : ℕ) (f g : Set) → Same k f g → binary k f ≡ binary k g
 unfolding binary
 binary-same zero f g h = refl
 binary-same (suc k) f g h =
     ap₂ (λ (b : Bool) (n : ℕ). one b * 2 ^ k + n) (h k (lt-suc-self k)) (binary-same k f g (λ i l. h i (le-step l)))
 
+-- sets that are the same below the bound are packed alike
 pub pack-same : (w : ℕ) (f g : Set) → Same (w * wordBits) f g → pack w f ≡ pack w g
 unfolding pack
 pack-same zero f g h = refl
@@ -116,22 +119,25 @@ pub row-ext : (xs ys : List ℕ)
 row-ext xs ys e p q h =
     sym (pack-row xs p) ∙ pack-same (length xs) (row xs) (row ys) h ∙ ap (λ (w : ℕ). pack w (row ys)) e ∙ pack-row ys q
 
--- the empty set is packed as zeros, and a row of zeros is empty
+-- the empty set makes 0
 binary-none : (k : ℕ) → binary k none ≡ 0
 unfolding binary
 binary-none zero = refl
 binary-none (suc k) = rw (zero-mul, zero-add) (binary-none k)
 
+-- and is packed as zeros
 pub pack-none : (w : ℕ) → pack w none ≡ replicate w 0
 unfolding pack
 pack-none zero = refl
 pack-none (suc w) = ap₂ _∷_ (binary-none wordBits) (pack-none w)
 
+-- every word of a row of zeros is 0
 zero-word : (w k : ℕ) → _≡_ {A = ℕ} (getD (replicate w 0) k 0) 0
 zero-word zero k = refl
 zero-word (suc w) zero = refl
 zero-word (suc w) (suc k) = zero-word w k
 
+-- a row of zeros is empty
 pub row-zero : (w a : ℕ) → row (replicate w 0) a ≡ false
 unfolding row
 row-zero w a = ap (λ (x : ℕ). bit x (a % wordBits)) (zero-word w (a / wordBits)) ∙ bit-zero (a % wordBits)
