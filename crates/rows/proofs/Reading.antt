@@ -26,14 +26,16 @@ use Rattle.words.proofs.Areas.{words-part}
 pub member-bit : (at a k b : ℕ) (area : List ℕ) → k ≡ a / wordBits → b ≡ a % wordBits
     → eqb (getD area (at + k) 0 / 2 ^ b % 2) 1 ≡ row (drop at area) a
 unfolding row bit
-member-bit at a k b area e f = ap₂ (λ (x y : ℕ). eqb (x / 2 ^ y % 2) 1) (ap (λ (n : ℕ). getD area (at + n) 0) e ∙ sym (getD-drop at area (a / wordBits) 0)) f
+member-bit at a k b area e f =
+    ap₂ (λ (x y : ℕ). eqb (x / 2 ^ y % 2) 1) (ap (λ (n : ℕ). getD area (at + n) 0) e ∙ sym (getD-drop at area (a / wordBits) 0)) f
 
 -- word j of a part of an area
 pub word-of : (at w : ℕ) (area : List ℕ) (j : ℕ) → j < w → getD (part at w area) j 0 ≡ getD area (at + j) 0
 word-of at w area j l = getD-take w (drop at area) j 0 l ∙ getD-drop at area j 0
 
 -- past the last word, what was found of the words passed is found of the row
-pub row-end : {A : Type 0} (T : ℕ → Set → A) (f : Set) (v : A) (j w : ℕ) → j ≤ w → w ≤ j → T (j * wordBits) f ≡ v → v ≡ T (w * wordBits) f
+pub row-end : {A : Type 0} (T : ℕ → Set → A) (f : Set) (v : A) (j w : ℕ)
+    → j ≤ w → w ≤ j → T (j * wordBits) f ≡ v → v ≡ T (w * wordBits) f
 row-end T f v j w l m e = sym e ∙ ap (λ (k : ℕ). T (k * wordBits) f) (le-antisymm l m)
 
 pub rows-end : {A : Type 0} (T : ℕ → Set → Set → A) (f g : Set) (v : A) (j w : ℕ)
@@ -82,20 +84,25 @@ module _ {A : Type 0} (T : ℕ → Set → Set → A) (op : A → A → A) (word
 
 module _ (T : ℕ → Set → Set → Bool) (op : Bool → Bool → Bool) (good bad : Bool) (s : Settles op good bad) (word : ℕ → ℕ → Bool)
     (more : ByWord T op word) (at start w : ℕ) (xs ys : List ℕ) (p : Words xs) (q : Words ys) where
+  -- the test of the first k words
   so-far : ℕ → Bool
   so-far k = T (k * wordBits) (row (part at w xs)) (row (part start w ys))
 
+  -- a good word
   on : (j : ℕ) → j < w → so-far j ≡ good → word (getD xs (at + j) 0) (getD ys (start + j) 0) ≡ good → so-far (j + 1) ≡ good
   unfolding so-far
   on j l h e = ap so-far (add-one j) ∙ in-place T op word more at start w xs ys p q j l ∙ ap₂ op h e ∙ s .keep
 
+  -- a bad word
   off : (j : ℕ) → j < w → word (getD xs (at + j) 0) (getD ys (start + j) 0) ≡ bad → bad ≡ so-far w
   unfolding so-far
   off j l e =
       sym
       (le-ind (λ (k : ℕ). k ≤ w → so-far k ≡ bad)
       (λ h. in-place T op word more at start w xs ys p q j l ∙ ap (op (so-far j)) e ∙ s .right (so-far j))
-      (λ k m f h. in-place T op word more at start w xs ys p q k h ∙ ap (λ b. op b (word (getD xs (at + k) 0) (getD ys (start + k) 0))) (f (le-of-lt h)) ∙ s .left _)
+      (λ k m f h.
+      in-place T op word more at start w xs ys p q k h
+      ∙ ap (λ b. op b (word (getD xs (at + k) 0) (getD ys (start + k) 0))) (f (le-of-lt h)) ∙ s .left _)
       w l (le-refl w))
 
 -- the tests of one word of each row: no bit of x is outside y, a bit is in both, a bit is in x

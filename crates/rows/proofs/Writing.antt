@@ -1,9 +1,9 @@
 -- Writing into a row: a word set in its place, one more word of a union, and a row packed whole.
 -- Assumes nothing.
-use mathlib.Core.Path.{_≡_, refl, sym, ap, ap₂, _∙_, fun-ext}
+use mathlib.Core.Path.{_≡_, sym, ap, ap₂, _∙_, fun-ext}
 use mathlib.Core.List.{List, [], _∷_, _++_, append-assoc}
-use mathlib.Core.Bool.{Bool, true, false, _||_, or-false}
-use Prim.Native.Nat.{ℕ, zero, suc, _+_, _-_, _*_, _/_, _%_, _^_, _≤_, _<_}
+use mathlib.Core.Bool.{Bool, _||_, or-false}
+use Prim.Native.Nat.{ℕ, zero, suc, _+_, _*_, _/_, _%_, _^_, _≤_, _<_}
 use native.Mathlib.Nat.{add-zero, le-antisymm, one-mul}
 use native.Mathlib.Numerals.{add-one}
 use native.Mathlib.Omega.{arith}
@@ -31,6 +31,7 @@ word-is v f h s = bits-equal wordBits (binary wordBits f) v (binary-lt wordBits 
 put-none : (at : ℕ) (area : List ℕ) → area ≡ put at [] area
 put-none at area = sym (ap (λ (n : ℕ). take at area ++ drop n area) (add-zero at) ∙ take-append-drop at area)
 
+-- ys, j words, put at `at`, with room for one more
 module _ (at j : ℕ) (ys area : List ℕ) (e : length ys ≡ j) (h : at + j < length area) where
   front : List ℕ
   front = take at area ++ ys
@@ -102,9 +103,11 @@ module _ (at start w : ℕ) (old src : List ℕ) where
     room : at + j < length old
     room = omega arith
 
+    -- the next word is still the old one
     kept : getD new (at + j) 0 ≡ getD old (at + j) 0
     kept = ap (λ (xs : List ℕ). getD xs (at + j) 0) e ∙ put-past at j (pack j both) old (length-pack j both) room
 
+    -- and its bits with the other row's are those of the union
     word-bits : Same wordBits (λ i. both (j * wordBits + i)) (bit word)
     unfolding word
     word-bits i m =
@@ -137,6 +140,7 @@ set-put at w q v old h l =
 row-packed : (w : ℕ) (ys : List ℕ) (f : Set) → length ys ≡ w → Words ys → Same (w * wordBits) (row ys) f → ys ≡ pack w f
 row-packed w ys f e p s = sym (pack-row ys p) ∙ ap (λ (k : ℕ). pack k (row ys)) e ∙ pack-same w (row ys) f s
 
+-- a word in range keeps the row's words in range
 words-set : (ws : List ℕ) (q v : ℕ) → Words ws → v < 2 ^ wordBits → Words (set ws q v)
 words-set [] q v p h k = p k
 words-set (x ∷ ws) zero v p h zero = h
@@ -155,6 +159,7 @@ module _ (ws : List ℕ) (q b : ℕ) (l : q < length ws) (m : b < wordBits) (a :
       t ∙ sym (eq-eqb (q * wordBits + b) a (omega arith)))
       (λ f. f ∙ sym (ne-eqb (q * wordBits + b) a (λ (g : q * wordBits + b ≡ a). eqb-false b (a % wordBits) f (omega arith))))
 
+  -- the row with that bit
   joined : row (set ws q (bitOr (getD ws q 0) (2 ^ b))) a ≡ row ws a || eqb (q * wordBits + b) a
   unfolding row
   joined =
@@ -174,8 +179,10 @@ module _ (ws : List ℕ) (q b : ℕ) (l : q < length ws) (m : b < wordBits) (a :
       (sym (ne-eqb (q * wordBits + b) a (λ (g : q * wordBits + b ≡ a). n (omega arith)))))
 
 -- atom a, which is bit b of word q, joins the row at `at` of old
-pub insert-bit : (at w a q b : ℕ) (old : List ℕ) (p : Known old) → at + w ≤ length old → a < w * wordBits → q ≡ a / wordBits → b ≡ a % wordBits
-    → set old (at + q) (bitOr (getD old (at + q) 0) ((1 * 2 ^ b) % 2 ^ wordBits)) ≡ put at (pack w (union (row (part at w old)) (only a))) old
+pub insert-bit : (at w a q b : ℕ) (old : List ℕ) (p : Known old)
+    → at + w ≤ length old → a < w * wordBits → q ≡ a / wordBits → b ≡ a % wordBits
+    → set old (at + q) (bitOr (getD old (at + q) 0) ((1 * 2 ^ b) % 2 ^ wordBits))
+    ≡ put at (pack w (union (row (part at w old)) (only a))) old
 insert-bit at w a q b old p h l e f =
     let lq : q < w = omega arith in
     let lb : b < wordBits = omega arith in

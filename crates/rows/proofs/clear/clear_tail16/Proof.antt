@@ -5,7 +5,9 @@ use Rattle.rows.proofs.clear.clear_tail16.Statement.{statement}
 use Rattle.rows.proofs.clear.clear_tail16.Tie as tie
 
 returns : tie.Need-returns
-returns c = part-cleared _ _ _ _ (c .before .before .before .before .before .pre .0) (c .before .before .before .before .before .pre .1) (c .before .before .clear16 .ensures)
+returns c =
+    let s = c .before .before .before .before .before in
+    part-cleared _ _ _ _ (s .pre .0) (s .pre .1) (c .before .before .clear16 .ensures)
 
 pub clear-tail16-spec : {M : Type 1} → statement M
 clear-tail16-spec =

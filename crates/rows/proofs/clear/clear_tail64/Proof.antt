@@ -5,7 +5,9 @@ use Rattle.rows.proofs.clear.clear_tail64.Statement.{statement}
 use Rattle.rows.proofs.clear.clear_tail64.Tie as tie
 
 returns : tie.Need-returns
-returns c = part-cleared _ _ _ _ (c .before .before .before .before .before .pre .0) (c .before .before .before .before .before .pre .1) (c .before .before .clear64 .ensures)
+returns c =
+    let s = c .before .before .before .before .before in
+    part-cleared _ _ _ _ (s .pre .0) (s .pre .1) (c .before .before .clear64 .ensures)
 
 pub clear-tail64-spec : {M : Type 1} → statement M
 clear-tail64-spec =

@@ -21,21 +21,22 @@ loop-holds c = search needs
 
 cast-n : tie.Need-cast-n Inv-loop μ-loop
 cast-n c =
-    let a = c .before .before .before .args in
-    ones-fits _ (c .shared-slice-known .given (a .at + c .before .before .loop .k))
+    let l = c .before .before in
+    ones-fits _ (c .shared-slice-known .given (l .before .args .at + l .loop .k))
 
 add-n-2 : tie.Need-add-n-2 Inv-loop μ-loop
 add-n-2 c =
-    let a = c .before .before .before .args in
-    count-fits (a .at) _ (a .area .now) (c .shared-slice-known .given) _ (c .before .loop-test .taken) _ (c .before .before .loop .inv .1)
-    (c .before .before .before .pre .1)
+    let l = c .before .before in
+    let a = l .before .args in
+    count-fits (a .at) _ (a .area .now) (c .shared-slice-known .given) _ (c .before .loop-test .taken) _ (l .loop .inv .1) (l .before .pre .1)
 
 loop-again : tie.Need-loop-again Inv-loop μ-loop
 loop-again c =
-    let a = c .before .before .before .args in (
+    let l = c .before .before in
+    let a = l .before .args in (
       search needs,
-      count-le (a .at) _ (a .area .now) (c .shared-slice-known .given) _ (c .before .loop-test .taken) _ (c .before .before .loop .inv .1),
-      count-on (a .at) _ (a .area .now) (c .shared-slice-known .given) _ (c .before .loop-test .taken) _ (c .before .before .loop .inv .2),
+      count-le (a .at) _ (a .area .now) (c .shared-slice-known .given) _ (c .before .loop-test .taken) _ (l .loop .inv .1),
+      count-on (a .at) _ (a .area .now) (c .shared-slice-known .given) _ (c .before .loop-test .taken) _ (l .loop .inv .2),
     )
 
 returns : tie.Need-returns Inv-loop μ-loop

@@ -11,7 +11,8 @@ use Rattle.rows.proofs.read.within.Statement.{statement}
 use Rattle.rows.proofs.read.within.Tie as tie
 
 abbrev Inv-loop : tie.InvT-loop
-Inv-loop a at b start width j₀ j = (j ≤ width) × (Set.within (j * wordBits) (row (part at width a)) (row (part start width b)) ≡ true)
+Inv-loop a at b start width j₀ j =
+    (j ≤ width) × (Set.within (j * wordBits) (row (part at width a)) (row (part start width b)) ≡ true)
 
 abbrev μ-loop : tie.MeasureT-loop
 μ-loop a at b start width j₀ j = width - j
@@ -22,16 +23,18 @@ loop-holds c = search needs
 
 returns : tie.Need-returns Inv-loop μ-loop
 returns c =
-    let a = c .before .before .before .before .before .args in
-    within-off (a .at) (a .start) _ (a .a .now) (a .b .now) (c .before .before .shared-slice-known .given) (c .before .shared-slice-known2 .given) _
-    (c .before .before .before .loop-test .taken) (c .if1 .taken)
+    let l = c .before .before .before .before in
+    let a = l .before .args in
+    within-off (a .at) (a .start) _ (a .a .now) (a .b .now) (c .before .before .shared-slice-known .given)
+    (c .before .shared-slice-known2 .given) _ (c .before .before .before .loop-test .taken) (c .if1 .taken)
 
 loop-again : tie.Need-loop-again Inv-loop μ-loop
 loop-again c =
-    let a = c .before .before .before .before .before .args in (
+    let l = c .before .before .before .before in
+    let a = l .before .args in (
       search needs,
-      within-on (a .at) (a .start) _ (a .a .now) (a .b .now) (c .before .before .shared-slice-known .given) (c .before .shared-slice-known2 .given) _
-          (c .before .before .before .loop-test .taken) (c .before .before .before .before .loop .inv .1) (c .if1 .left),
+      within-on (a .at) (a .start) _ (a .a .now) (a .b .now) (c .before .before .shared-slice-known .given)
+          (c .before .shared-slice-known2 .given) _ (c .before .before .before .loop-test .taken) (l .loop .inv .1) (c .if1 .left),
     )
 
 returns-2 : tie.Need-returns-2 Inv-loop μ-loop

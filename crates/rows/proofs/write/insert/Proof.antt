@@ -6,9 +6,10 @@ use Rattle.rows.proofs.write.insert.Tie as tie
 
 returns : tie.Need-returns
 returns c =
-    let a = c .before .before .before .before .args in
-    insert-bit (a .at) (a .width) (a .a) _ _ (a .area .now) (c .before .before .before .slice-known .given) (c .before .before .before .before .pre .0)
-    (c .before .before .before .before .pre .1) (c .before .before .word-of .ensures) (c .bit-of .ensures)
+    let s = c .before .before .before .before in
+    let a = s .args in
+    insert-bit (a .at) (a .width) (a .a) _ _ (a .area .now) (c .before .before .before .slice-known .given) (s .pre .0) (s .pre .1)
+    (c .before .before .word-of .ensures) (c .bit-of .ensures)
 
 pub insert-spec : {M : Type 1} → statement M
 insert-spec =

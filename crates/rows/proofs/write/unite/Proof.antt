@@ -10,7 +10,9 @@ use Rattle.rows.proofs.write.unite.Statement.{statement}
 use Rattle.rows.proofs.write.unite.Tie as tie
 
 abbrev Inv-loop : tie.InvT-loop
-Inv-loop to₀ at from start width j₀ to j = (j ≤ width) × (length to ≡ length to₀) × (to ≡ put at (pack j (union (row (part at width to₀)) (row (part start width from)))) to₀)
+Inv-loop to₀ at from start width j₀ to j =
+    (j ≤ width) × (length to ≡ length to₀)
+    × (to ≡ put at (pack j (union (row (part at width to₀)) (row (part start width from)))) to₀)
 
 abbrev μ-loop : tie.MeasureT-loop
 μ-loop to₀ at from start width j₀ to j = width - j
@@ -22,11 +24,12 @@ loop-holds c =
 
 loop-again : tie.Need-loop-again Inv-loop μ-loop
 loop-again c =
-    let a = c .before .before .before .before .args in (
+    let l = c .before .before .before in
+    let a = l .before .args in (
       search needs,
       search needs,
-      unite-on (a .at) (a .start) (a .width) (a .to .now) (a .from .now) _ (c .before .slice-known .given) (c .shared-slice-known .given) _
-          (c .before .before .loop-test .taken) (c .before .before .before .before .pre .0) (c .before .before .before .loop .inv .2),
+      unite-on (a .at) (a .start) (a .width) (a .to .now) (a .from .now) _ (c .before .slice-known .given) (c .shared-slice-known .given)
+          _ (c .before .before .loop-test .taken) (l .before .pre .0) (l .loop .inv .2),
     )
 
 returns : tie.Need-returns Inv-loop μ-loop
