@@ -1,1 +1,90 @@
-// The book type: every limit of a book.
+// The book type: every limit of a book, once, and where the parts of an area begin.
+ghost use mathlib.Core.Path.{_≡_};
+ghost use Prim.Native.Nat.{_*_, _/_, _%_, _≤_};
+ghost use Rattle.limits.specs.Book.{textBytes, names, nameBytes, rules, atoms, folds, wordBits};
+ghost use Rattle.limits.specs.Book.{rowWords, bodyWords, listingBytes, nameArea, bodyArea, rowArea};
+
+pub struct Book;
+
+impl Book {
+    pub const TEXT_BYTES: usize = 16384;
+
+    pub const NAMES: usize = 128;
+
+    pub const NAME_BYTES: usize = 32;
+
+    pub const RULES: usize = 256;
+
+    pub const ATOMS: usize = 256;
+
+    pub const FOLDS: usize = 8;
+
+    pub const WORD_BITS: usize = 64;
+
+    pub const ROW_WORDS: usize = 4;
+
+    pub const BODY_WORDS: usize = 2;
+
+    pub const LISTING_BYTES: usize = 4608;
+
+    pub const NAME_AREA: usize = Book::NAMES * Book::NAME_BYTES;
+
+    pub const BODY_AREA: usize = Book::RULES * Book::BODY_WORDS;
+
+    pub const ROW_AREA: usize = Book::ATOMS * Book::ROW_WORDS;
+
+    // Does nothing: its contract ties each constant to the number of specs/.
+    pub fn limits()
+        ensures text { λ r. do ⌜ (← ⟦Book::TEXT_BYTES⟧ .entry) ≡ textBytes ⌝ }
+        ensures names { λ r. do ⌜ (← ⟦Book::NAMES⟧ .entry) ≡ names ⌝ }
+        ensures spelling { λ r. do ⌜ (← ⟦Book::NAME_BYTES⟧ .entry) ≡ nameBytes ⌝ }
+        ensures rules { λ r. do ⌜ (← ⟦Book::RULES⟧ .entry) ≡ rules ⌝ }
+        ensures atoms { λ r. do ⌜ (← ⟦Book::ATOMS⟧ .entry) ≡ atoms ⌝ }
+        ensures folds { λ r. do ⌜ (← ⟦Book::FOLDS⟧ .entry) ≡ folds ⌝ }
+        ensures word { λ r. do ⌜ (← ⟦Book::WORD_BITS⟧ .entry) ≡ wordBits ⌝ }
+        ensures row { λ r. do ⌜ (← ⟦Book::ROW_WORDS⟧ .entry) ≡ rowWords ⌝ }
+        ensures body { λ r. do ⌜ (← ⟦Book::BODY_WORDS⟧ .entry) ≡ bodyWords ⌝ }
+        ensures listing { λ r. do ⌜ (← ⟦Book::LISTING_BYTES⟧ .entry) ≡ listingBytes ⌝ }
+        ensures spellings { λ r. do ⌜ (← ⟦Book::NAME_AREA⟧ .entry) ≡ nameArea ⌝ }
+        ensures bodies { λ r. do ⌜ (← ⟦Book::BODY_AREA⟧ .entry) ≡ bodyArea ⌝ }
+        ensures rows { λ r. do ⌜ (← ⟦Book::ROW_AREA⟧ .entry) ≡ rowArea ⌝ }
+    {}
+
+    // The first byte of name i in the name area.
+    pub fn name_at(i: usize) -> usize
+        requires { ⌜ i ≤ names ⌝ }
+        ensures { λ r. ⌜ r ≡ i * nameBytes ⌝ }
+    {
+        i * Book::NAME_BYTES
+    }
+
+    // The first word of body j in the body area.
+    pub fn body_at(j: usize) -> usize
+        requires { ⌜ j ≤ rules ⌝ }
+        ensures { λ r. ⌜ r ≡ j * bodyWords ⌝ }
+    {
+        j * Book::BODY_WORDS
+    }
+
+    // The first word of row i in an area of rows.
+    pub fn row_at(i: usize) -> usize
+        requires { ⌜ i ≤ atoms ⌝ }
+        ensures { λ r. ⌜ r ≡ i * rowWords ⌝ }
+    {
+        i * Book::ROW_WORDS
+    }
+
+    // The word of a row that holds atom a.
+    pub fn word_of(a: usize) -> usize
+        ensures { λ r. ⌜ r ≡ a / wordBits ⌝ }
+    {
+        a / Book::WORD_BITS
+    }
+
+    // The bit of that word, the lowest being 0.
+    pub fn bit_of(a: usize) -> usize
+        ensures { λ r. ⌜ r ≡ a % wordBits ⌝ }
+    {
+        a % Book::WORD_BITS
+    }
+}

@@ -1,0 +1,9 @@
+-- An area with a run of its elements cleared.
+-- Assumes nothing.
+use mathlib.Core.List.{List, _++_}
+use Prim.Native.Nat.{ℕ, _-_}
+use lib.ListN.{take, drop, replicate}
+
+-- zeros from place a up to e, the rest as it was
+abbrev pub cleared : ℕ → ℕ → List ℕ → List ℕ
+cleared a e xs = take a xs ++ (replicate (e - a) 0 ++ drop e xs)
