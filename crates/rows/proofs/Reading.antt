@@ -19,7 +19,7 @@ use borrow.Author.Tests.{eq-eqb, ne-eqb}
 use Rattle.limits.specs.Book.{wordBits}
 use Rattle.sets.specs.Set.{Set, within, meets, same, some, count}
 use Rattle.words.specs.Row.{bit, row, part, Words}
-use Rattle.words.proofs.Rows.{within-more, meets-more, same-more, some-more, count-more}
+use Rattle.words.proofs.Rows.{withinWord, meetsWord, someWord, within-more, meets-more, same-more, some-more, count-more}
 use Rattle.words.proofs.Areas.{words-part}
 
 -- bit b of word k is atom a
@@ -104,16 +104,6 @@ module _ (T : ℕ → Set → Set → Bool) (op : Bool → Bool → Bool) (good 
       in-place T op word more at start w xs ys p q k h
       ∙ ap (λ b. op b (word (getD xs (at + k) 0) (getD ys (start + k) 0))) (f (le-of-lt h)) ∙ s .left _)
       w l (le-refl w))
-
--- the tests of one word of each row: no bit of x is outside y, a bit is in both, a bit is in x
-abbrev withinWord : ℕ → ℕ → Bool
-withinWord x y = eqb (bitAnd x ((2 ^ wordBits - 1) - y)) 0
-
-abbrev meetsWord : ℕ → ℕ → Bool
-meetsWord x y = not (eqb (bitAnd x y) 0)
-
-abbrev someWord : ℕ → ℕ → Bool
-someWord x y = not (eqb x 0)
 
 -- the rows at `at` of xs and at `start` of ys, w words each: the next word passes the test, or settles it
 module _ (at start w : ℕ) (xs ys : List ℕ) (p : Known xs) (q : Known ys) (j : ℕ) (l : j < w) where

@@ -2,7 +2,7 @@
 -- Assumes nothing.
 use mathlib.Core.Path.{_≡_, sym, ap, _∙_}
 use mathlib.Core.List.{List}
-use mathlib.Core.Bool.{false, true≢false}
+use mathlib.Core.Bool.{false}
 use Prim.Native.Nat.{ℕ, _+_, _-_, _*_, _/_, _%_, _^_, _≤_, _<_}
 use native.Mathlib.Omega.{arith}
 use lib.Count.{trailingZeros, trailing-le}
@@ -15,7 +15,8 @@ use borrow.Author.Tests.{ltb-true, ltb-false}
 use Rattle.limits.specs.Book.{wordBits}
 use Rattle.sets.specs.Set.{Set, next}
 use Rattle.words.specs.Row.{bit, row, part}
-use Rattle.words.proofs.Tests.{either, First, next-spec, next-unique}
+use Rattle.sets.proofs.Logic.{either, clash}
+use Rattle.sets.proofs.Ranges.{Following, next-spec, next-unique}
 use Rattle.words.proofs.Bits.{bit-zero, bit-shr, bit-high, bits-equal, trailing-next}
 use Rattle.words.proofs.Rows.{row-word}
 use Rattle.rows.proofs.Reading.{Known, word-of}
@@ -59,7 +60,7 @@ module _ (at w : ℕ) (area : List ℕ) (p : Known area) (k b i : ℕ) (ek : k �
     abbrev t : ℕ
     t = trailingZeros wordBits rest
 
-    first : First wordBits (bit rest) 0 t
+    first : Following wordBits (bit rest) 0 t
     first = rw (trailing-next wordBits rest) (next-spec wordBits (bit rest) 0)
 
     low : t < wordBits
@@ -75,7 +76,7 @@ module _ (at w : ℕ) (area : List ℕ) (p : Known area) (k b i : ℕ) (ek : k �
     here : b + t < wordBits
     here =
         either (ltb (b + t) wordBits) (λ e. ltb-true (b + t) wordBits e)
-        (λ e. absurd (true≢false (sym (first .1 low) ∙ rest-high t (ltb-false (b + t) wordBits e))))
+        (λ e. clash (first .1 low) (rest-high t (ltb-false (b + t) wordBits e)))
 
     -- so it is the first atom at or past i
     pub found : i + t ≡ next (w * wordBits - i) f i
@@ -96,7 +97,7 @@ module _ (at w : ℕ) (area : List ℕ) (p : Known area) (k b i : ℕ) (ek : k �
   skip z =
       let s : ℕ = (k + 1) * wordBits in
       let r : ℕ = next (w * wordBits - s) f s in
-      let q : First (w * wordBits - s) f s r = next-spec (w * wordBits - s) f s in
+      let q : Following (w * wordBits - s) f s r = next-spec (w * wordBits - s) f s in
       next-unique (w * wordBits - i) f i r (omega (arith, q .2)) (omega (arith, q .3))
       (λ j g m.
       either (ltb j s)

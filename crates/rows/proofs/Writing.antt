@@ -17,7 +17,7 @@ use borrow.Rule.Slice.PartMut.{set-mid-at}
 use Rattle.limits.specs.Book.{wordBits}
 use Rattle.sets.specs.Set.{Set, Same, only, union}
 use Rattle.words.specs.Row.{bit, row, part, put, pack, binary, Words}
-use Rattle.words.proofs.Tests.{either}
+use Rattle.sets.proofs.Logic.{either}
 use Rattle.words.proofs.Bits.{bit-or, bit-power, bit-binary, bits-equal, binary-lt}
 use Rattle.words.proofs.Rows.{row-word, length-pack, pack-row, pack-same}
 use Rattle.words.proofs.Areas.{length-part, words-part}

@@ -154,16 +154,8 @@ abbrev OnWords : {A : Type 0} → (ℕ → Set → Set → A) → (ℕ → ℕ �
 OnWords T word = (x y : ℕ) → x < 2 ^ wordBits → y < 2 ^ wordBits → (f g : Set)
     → Same wordBits f (bit x) → Same wordBits g (bit y) → T wordBits f g ≡ word x y
 
--- such a T of two rows, with one word more in front, or at the end
+-- such a T of two rows, with one word more
 module _ {A : Type 0} (T : ℕ → Set → Set → A) (op : A → A → A) (word : ℕ → ℕ → A) (add : Joins T op) (at : OnWords T word) where
-  cons : (n x y : ℕ) (xs ys : List ℕ) → x < 2 ^ wordBits → y < 2 ^ wordBits
-      → T (suc n * wordBits) (row (x ∷ xs)) (row (y ∷ ys)) ≡ op (word x y) (T (n * wordBits) (row xs) (row ys))
-  cons n x y xs ys p q =
-      let e : suc n * wordBits ≡ wordBits + n * wordBits = omega arith in
-      ap (λ (m : ℕ). T m (row (x ∷ xs)) (row (y ∷ ys))) e ∙ add wordBits (n * wordBits) (row (x ∷ xs)) (row (y ∷ ys))
-      ∙ ap₂ op (at x y p q (row (x ∷ xs)) (row (y ∷ ys)) (row-here x xs) (row-here y ys))
-      (ap₂ (T (n * wordBits)) (fun-ext (row-next x xs)) (fun-ext (row-next y ys)))
-
   more : (j : ℕ) (xs ys : List ℕ) → Words xs → Words ys
       → T (suc j * wordBits) (row xs) (row ys) ≡ op (T (j * wordBits) (row xs) (row ys)) (word (getD xs j 0) (getD ys j 0))
   more j xs ys p q =
@@ -186,13 +178,13 @@ unfolding same
 same-add n k f g = every-add n k (λ i. Bool·beq (f i) (g i))
 
 -- the tests on one word of each row: no bit of x is outside y, a bit is in both, a bit is in x
-abbrev withinWord : ℕ → ℕ → Bool
+abbrev pub withinWord : ℕ → ℕ → Bool
 withinWord x y = eqb (bitAnd x ((2 ^ wordBits - 1) - y)) 0
 
-abbrev meetsWord : ℕ → ℕ → Bool
+abbrev pub meetsWord : ℕ → ℕ → Bool
 meetsWord x y = not (eqb (bitAnd x y) 0)
 
-abbrev someWord : ℕ → ℕ → Bool
+abbrev pub someWord : ℕ → ℕ → Bool
 someWord x y = not (eqb x 0)
 
 within-at : OnWords within withinWord
@@ -212,32 +204,10 @@ some-at x y p q f g a b =
 count-at : OnWords (λ m f g. count m f) (λ x y. ones x)
 count-at x y p q f g a b = count-same wordBits f (bit x) a ∙ sym (ones-count wordBits x p)
 
--- one word more in front
-pub within-cons : (n x y : ℕ) (xs ys : List ℕ) → x < 2 ^ wordBits → y < 2 ^ wordBits
-    → within (suc n * wordBits) (row (x ∷ xs)) (row (y ∷ ys))
-    ≡ eqb (bitAnd x ((2 ^ wordBits - 1) - y)) 0 && within (n * wordBits) (row xs) (row ys)
-within-cons = cons within _&&_ withinWord within-add within-at
-
-pub meets-cons : (n x y : ℕ) (xs ys : List ℕ) → x < 2 ^ wordBits → y < 2 ^ wordBits
-    → meets (suc n * wordBits) (row (x ∷ xs)) (row (y ∷ ys)) ≡ not (eqb (bitAnd x y) 0) || meets (n * wordBits) (row xs) (row ys)
-meets-cons = cons meets _||_ meetsWord meets-add meets-at
-
-pub same-cons : (n x y : ℕ) (xs ys : List ℕ) → x < 2 ^ wordBits → y < 2 ^ wordBits
-    → same (suc n * wordBits) (row (x ∷ xs)) (row (y ∷ ys)) ≡ eqb x y && same (n * wordBits) (row xs) (row ys)
-same-cons = cons same _&&_ eqb same-add same-at
-
-pub some-cons : (n x : ℕ) (xs : List ℕ) → x < 2 ^ wordBits
-    → some (suc n * wordBits) (row (x ∷ xs)) ≡ not (eqb x 0) || some (n * wordBits) (row xs)
-some-cons n x xs p = cons (λ m f g. some m f) _||_ someWord (λ m k f g. some-add m k f) some-at n x x xs xs p p
-
-pub count-cons : (n x : ℕ) (xs : List ℕ) → x < 2 ^ wordBits
-    → count (suc n * wordBits) (row (x ∷ xs)) ≡ ones x + count (n * wordBits) (row xs)
-count-cons n x xs p = cons (λ m f g. count m f) _+_ (λ x y. ones x) (λ m k f g. count-add m k f) count-at n x x xs xs p p
-
 -- the word at j after the j words before it
 pub within-more : (j : ℕ) (xs ys : List ℕ) → Words xs → Words ys
     → within (suc j * wordBits) (row xs) (row ys)
-    ≡ within (j * wordBits) (row xs) (row ys) && eqb (bitAnd (getD xs j 0) ((2 ^ wordBits - 1) - getD ys j 0)) 0
+    ≡ within (j * wordBits) (row xs) (row ys) && withinWord (getD xs j 0) (getD ys j 0)
 within-more = more within _&&_ withinWord within-add within-at
 
 pub meets-more : (j : ℕ) (xs ys : List ℕ) → Words xs → Words ys
