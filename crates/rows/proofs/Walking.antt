@@ -16,7 +16,7 @@ use Rattle.limits.specs.Book.{wordBits}
 use Rattle.sets.specs.Set.{Set, next}
 use Rattle.words.specs.Row.{bit, row, part}
 use Rattle.sets.proofs.Logic.{either, clash}
-use Rattle.sets.proofs.Ranges.{Following, next-spec, next-unique}
+use Rattle.sets.proofs.Walk.{Following, next-spec, next-unique}
 use Rattle.words.proofs.Bits.{bit-zero, bit-shr, bit-high, bits-equal, trailing-next}
 use Rattle.words.proofs.Rows.{row-word}
 use Rattle.rows.proofs.Reading.{Known, word-of}

@@ -2,5 +2,6 @@ pub mod Logic
 pub mod Tests
 pub mod Counting
 pub mod Ranges
+pub mod Walk
 pub mod Rounds
 pub mod Theorems

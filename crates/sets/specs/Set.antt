@@ -2,6 +2,7 @@
 -- Assumes nothing.
 use mathlib.Core.Path.{_≡_}
 use mathlib.Core.Bool.{Bool, true, false, not, _&&_, _||_, Bool·beq}
+use mathlib.Core.List.{List, [], _∷_}
 use Prim.Native.Nat.{ℕ, zero, suc, _<_}
 use lib.Dec.{eqb}
 
@@ -78,3 +79,8 @@ image r g f i = some r (λ j. eqb (g j) i && f j)
 unfoldable pub next : ℕ → Set → ℕ → ℕ
 next zero f i = i
 next (suc k) f i = pick (f i) i (next k f (suc i))
+
+-- the members among the k numbers from i on, rising
+unfoldable pub members : ℕ → Set → ℕ → List ℕ
+members zero f i = []
+members (suc k) f i = pick (f i) (i ∷ members k f (suc i)) (members k f (suc i))

@@ -16,7 +16,8 @@ use Rattle.sets.specs.Set.{Set, Same, one, pick, every, some, count, within, me
 use Rattle.words.specs.Row.{bit, binary}
 use Rattle.sets.proofs.Logic.{iff, beq-eq, beq-refl}
 use Rattle.sets.proofs.Tests.{every-at, every-make, every-same, some-same, not-some}
-use Rattle.sets.proofs.Ranges.{count-add, next-suc}
+use Rattle.sets.proofs.Ranges.{count-add}
+use Rattle.sets.proofs.Walk.{next-suc}
 
 -- a number below 2 ^ (k + 1) halved is below 2 ^ k
 half-lt : (k a : ℕ) → a < 2 ^ suc k → a / 2 < 2 ^ k
