@@ -1,7 +1,7 @@
 -- `rows::read::count` meets its contract. The loop's invariant: the bits of the words passed. Assumes nothing.
 use Rattle.rows.proofs.Reading.{row-end, ones-fits, count-on, count-le, count-fits}
 use Prim.Native.Nat.{_+_, _*_, _-_, _≤_}
-use mathlib.Core.Path.{_≡_, sym}
+use mathlib.Core.Path.{_≡_, refl, sym}
 use Rattle.limits.specs.Book.{wordBits}
 use Rattle.sets.specs.Set as Set
 use Rattle.words.specs.Row.{row, part}
@@ -17,7 +17,7 @@ abbrev μ-loop : tie.MeasureT-loop
 
 loop-holds : tie.Need-loop-holds Inv-loop μ-loop
 unfolding Set.count
-loop-holds c = search needs
+loop-holds c = (search needs, search needs, refl)
 
 cast-n : tie.Need-cast-n Inv-loop μ-loop
 cast-n c =
