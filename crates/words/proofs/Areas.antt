@@ -1,15 +1,16 @@
 -- A row in its place in an area: reading it, writing it, and what writing leaves as it was.
 -- Assumes nothing.
-use mathlib.Core.Path.{_≡_, sym, ap, _∙_}
+use mathlib.Core.Path.{_≡_, sym, ap, subst, _∙_}
 use mathlib.Core.List.{List, [], _∷_, _++_, append-assoc}
 use Prim.Native.Nat.{ℕ, zero, suc, _+_, _-_, _*_, _/_, _%_, _≤_, _<_}
 use native.Mathlib.Omega.{arith}
 use lib.Pow.{pow-pos}
 use lib.ListN.{length, take, drop, length-append, length-take, length-drop, take-append-drop}
 use lib.Seq.{getD-take, getD-drop, length-take-le, take-append-seam, take-append-le, drop-append-le, drop-at, drop-drop}
-use Rattle.sets.specs.Set.{Same}
+use Rattle.sets.specs.Set.{Set, Same}
 use Rattle.limits.specs.Book.{wordBits}
-use Rattle.words.specs.Row.{bit, row, Words, part, put}
+use Rattle.words.specs.Row.{bit, row, Words, pack, part, put}
+use Rattle.words.proofs.Rows.{length-pack, row-pack}
 
 -- the atoms of a part are those of the area from there on
 pub row-drop : (at w : ℕ) (area : List ℕ) → Same (w * wordBits) (row (part at w area)) (row (drop at area))
@@ -93,3 +94,13 @@ pub words-put : (at : ℕ) (ys area : List ℕ) → Words ys → Words area → 
 words-put at ys area p h =
     words-append (take at area) (ys ++ drop (at + length ys) area) (words-take at area h)
     (words-append ys (drop (at + length ys) area) p (words-drop (at + length ys) area h))
+
+-- the set packed and put into an area is read back from its place
+pub row-put : (at w : ℕ) (f : Set) (area : List ℕ)
+    → at + w ≤ length area → Same (w * wordBits) (row (part at w (put at (pack w f) area))) f
+row-put at w f area h a l =
+    let n : length (pack w f) ≡ w = length-pack w f in
+    let there : part at w (put at (pack w f) area) ≡ pack w f =
+    subst (λ (k : ℕ). part at k (put at (pack w f) area) ≡ pack w f) n (part-put at (pack w f) area (omega arith))
+    in
+    ap (λ (ws : List ℕ). row ws a) there ∙ row-pack w f a l
