@@ -9,7 +9,7 @@ use lib.Dec.{eqb, leb}
 use borrow.Author.Tests.{eqb-true, eq-eqb, leb-true, le-leb}
 use Rattle.sets.specs.Set.{Set, count, only, image}
 use Rattle.sets.proofs.Logic.{either, clash, not-true, iff, of-not, pick-true, pick-false}
-use Rattle.sets.proofs.Counting.{count-pos, count-some, count-same, count-tail, count-image, image-make, image-find}
+use Rattle.sets.proofs.Counting.{count-pos, count-find, count-same, count-tail, count-image, image-make, image-find}
 use Rattle.program.specs.Program.{Program, Sound, size, headAt, bodyAt}
 use Rattle.program.specs.System.{Regular, anyHead, c, h}
 use Rattle.program.specs.Standard.{ways, several, helper, home, full, bodied, allRow, anyRow, startSet, standard, Bears, Alone}
@@ -140,7 +140,7 @@ module _ (p : Program) (sound : Sound p) where
       (λ t. let q = head-find p a t in sym (several-ways p (q .0) a (q .3)) ∙ q .2)
       (λ t.
       let two : 2 ≤ ways p a = leb-true 2 (ways p a) t in
-      let q = count-some r (λ j. eqb (headAt p j) a) (unfold ways in (omega arith)) in
+      let q = count-find r (λ j. eqb (headAt p j) a) (unfold ways in (omega arith)) in
       let e : headAt p (q .0) ≡ a = eqb-true (headAt p (q .0)) a (q .2) in
       subst (λ (x : ℕ). O x ≡ true) e
       (head-make p (q .0) (q .1) (several-ways p (q .0) a e ∙ t))))

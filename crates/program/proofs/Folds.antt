@@ -8,20 +8,20 @@ use native.Mathlib.Omega.{arith}
 use Rattle.sets.specs.Set.{Set, within, pick, meets}
 use Rattle.sets.specs.Steps.{after}
 use Rattle.sets.proofs.Logic.{iff, and-left, and-right, and-make}
-use Rattle.sets.proofs.Tests.{some-make, some-find, within-at, within-make}
-use Rattle.program.specs.System.{System, anyHead, allStep, round, unfold1, unfolded, folded}
+use Rattle.sets.proofs.Tests.{exists-make, exists-find, within-at, within-make}
+use Rattle.program.specs.System.{System, anyHead, allStep, round, unfoldOnce, unfolded, folded}
 
 -- one fold: new row i lies within v where each old row j does, for all j in old row i
-pub fold-composes : (m : ℕ) (rows : ℕ → Set) (v : Set) (i : ℕ) → allStep m (unfold1 m rows) v i ≡ allStep m rows (allStep m rows v) i
-unfolding allStep unfold1
+pub fold-composes : (m : ℕ) (rows : ℕ → Set) (v : Set) (i : ℕ) → allStep m (unfoldOnce m rows) v i ≡ allStep m rows (allStep m rows v) i
+unfolding allStep unfoldOnce
 fold-composes m rows v i =
-    iff (within m (unfold1 m rows i) v) (within m (rows i) (allStep m rows v))
+    iff (within m (unfoldOnce m rows i) v) (within m (rows i) (allStep m rows v))
     (λ e. within-make m (rows i) (allStep m rows v)
     (λ j l p. within-make m (rows j) v
-    (λ k h q. within-at m (unfold1 m rows i) v e k h (some-make m (λ j. rows i j && rows j k) j l (and-make p q)))))
-    (λ e. within-make m (unfold1 m rows i) v
+    (λ k h q. within-at m (unfoldOnce m rows i) v e k h (exists-make m (λ j. rows i j && rows j k) j l (and-make p q)))))
+    (λ e. within-make m (unfoldOnce m rows i) v
     (λ k h q.
-    let r = some-find m (λ j. rows i j && rows j k) q in
+    let r = exists-find m (λ j. rows i j && rows j k) q in
     let j : ℕ = r .0 in
     within-at m (rows j) v (within-at m (rows i) (allStep m rows v) e j (r .1) (and-left (rows i j) (rows j k) (r .2))) k h
     (and-right (rows i j) (rows j k) (r .2))))

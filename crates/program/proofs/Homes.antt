@@ -8,7 +8,7 @@ use lib.Dec.{eqb, leb, ltb}
 use borrow.Author.Tests.{eqb-true, eq-eqb, le-leb, ltb-true, ltb-false}
 use Rattle.sets.specs.Set.{count}
 use Rattle.sets.proofs.Logic.{either, clash, not-true, and-left, and-right, and-make, pick-true, pick-false}
-use Rattle.sets.proofs.Tests.{some-make, some-find}
+use Rattle.sets.proofs.Tests.{exists-make, exists-find}
 use Rattle.sets.proofs.Counting.{rank-less, rank-one, count-two}
 use Rattle.program.specs.Program.{Program, Sound, size, headAt}
 use Rattle.program.specs.System.{anyHead}
@@ -104,13 +104,13 @@ module _ (p : Program) where
   pub any-make : (j : ℕ) → j < r → several p j ≡ true → anyRow p (headAt p j) (helper p j) ≡ true
   unfolding anyRow
   any-make j l s =
-      some-make r (λ k. several p k && (eqb (headAt p k) (headAt p j) && eqb (helper p k) (helper p j))) j l
+      exists-make r (λ k. several p k && (eqb (headAt p k) (headAt p j) && eqb (helper p k) (helper p j))) j l
       (and-make s (and-make (eq-eqb (headAt p j) (headAt p j) refl) (eq-eqb (helper p j) (helper p j) refl)))
 
   pub any-find : (i k : ℕ) → anyRow p i k ≡ true → (j : ℕ) × (j < r) × (several p j ≡ true) × (headAt p j ≡ i) × (helper p j ≡ k)
   unfolding anyRow
   any-find i k e =
-      let q = some-find r (λ j. several p j && (eqb (headAt p j) i && eqb (helper p j) k)) e in
+      let q = exists-find r (λ j. several p j && (eqb (headAt p j) i && eqb (helper p j) k)) e in
       let j : ℕ = q .0 in
       let a : Bool = eqb (headAt p j) i in
       let b : Bool = eqb (helper p j) k in
@@ -125,12 +125,12 @@ module _ (p : Program) where
   -- an "any" head is the head of several rules
   pub head-make : (j : ℕ) → j < r → several p j ≡ true → anyHead (standard p) (headAt p j) ≡ true
   unfolding anyHead
-  head-make j l s = some-make atoms (anyRow p (headAt p j)) (helper p j) (helper-below j l s) (any-make j l s)
+  head-make j l s = exists-make atoms (anyRow p (headAt p j)) (helper p j) (helper-below j l s) (any-make j l s)
 
   pub head-find : (i : ℕ) → anyHead (standard p) i ≡ true → (j : ℕ) × (j < r) × (several p j ≡ true) × (headAt p j ≡ i)
   unfolding anyHead
   head-find i e =
-      let q = some-find atoms (anyRow p i) e in
+      let q = exists-find atoms (anyRow p i) e in
       let f = any-find i (q .0) (q .2) in
       (f .0, f .1, f .2, f .3)
 

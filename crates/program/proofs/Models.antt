@@ -10,7 +10,7 @@ use borrow.Author.Tests.{lt-ltb, le-ltb}
 use Rattle.sets.specs.Set.{Set, Within, Same, pick, only, image, within, meets}
 use Rattle.sets.specs.Steps.{Closed, Least}
 use Rattle.sets.proofs.Logic.{either, clash, iff, and-left, and-right, and-make, not-of-false, pick-true, pick-false}
-use Rattle.sets.proofs.Tests.{some-none, within-at, within-make, meets-make, meets-find, within-same, only-within}
+use Rattle.sets.proofs.Tests.{exists-none, within-at, within-make, meets-make, meets-find, within-same, only-within}
 use Rattle.sets.proofs.Counting.{image-make, image-find}
 use Rattle.program.specs.Program.{Program, Sound, Model, InEveryModel, size, headAt, bodyAt, plainHeld}
 use Rattle.program.specs.System.{System, anyHead, allStep, round, folded, unfolded, heldBy}
@@ -75,7 +75,7 @@ module _ (p : Program) (sound : Sound p) where
       let j : ℕ = q .0 in
       subst (λ (x : ℕ). spread M x ≡ true) (q .2)
       (spread-home M model j (q .1) (λ k b t.
-      either (full p j) (λ f. clash (q .3) (ap not f)) (λ f. clash t (some-none n (bodyAt p j) (unfold full in f) k b))))
+      either (full p j) (λ f. clash (q .3) (ap not f)) (λ f. clash t (exists-none n (bodyAt p j) (unfold full in f) k b))))
 
   -- and is closed under a round: at an "any" head, at the home of a rule with a body, at an atom that is alone
   closed-head : (M : Set) → Model p M → (i : ℕ) → meets atoms (anyRow p i) (spread M) ≡ true → spread M i ≡ true

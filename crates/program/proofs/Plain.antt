@@ -7,10 +7,10 @@ use Prim.Native.Nat.{ℕ, suc, _≤_, _<_, _+_}
 use native.Mathlib.Omega.{arith}
 use lib.Dec.{eqb}
 use borrow.Author.Tests.{eqb-true, eq-eqb}
-use Rattle.sets.specs.Set.{Set, Within, count, within, none}
+use Rattle.sets.specs.Set.{Set, Within, count, within, emptySet}
 use Rattle.sets.specs.Steps.{Monotone, Closed, Least, rounds}
 use Rattle.sets.proofs.Logic.{clash, and-left, and-right, and-make, or-right}
-use Rattle.sets.proofs.Tests.{some-make, some-find, within-at, within-make}
+use Rattle.sets.proofs.Tests.{exists-make, exists-find, within-at, within-make}
 use Rattle.sets.proofs.Counting.{count-le}
 use Rattle.sets.proofs.Rounds.{reached-least, rounds-join}
 use Rattle.program.specs.Program.{Program, Sound, Model, InEveryModel, size, headAt, bodyAt, consequence, plainRounds, plainHeld}
@@ -23,14 +23,14 @@ module _ (p : Program) where
   pub follows : (v : Set) (j : ℕ) → j < size p → Within n (bodyAt p j) v → consequence p v (headAt p j) ≡ true
   unfolding consequence
   follows v j l w =
-      some-make (size p) (λ j′. eqb (headAt p j′) (headAt p j) && within n (bodyAt p j′) v) j l
+      exists-make (size p) (λ j′. eqb (headAt p j′) (headAt p j) && within n (bodyAt p j′) v) j l
       (and-make (eq-eqb (headAt p j) (headAt p j) refl) (within-make n (bodyAt p j) v w))
 
   -- and each consequence has such a rule
   pub rule-of : (v : Set) (a : ℕ) → consequence p v a ≡ true → (j : ℕ) × (j < size p) × (headAt p j ≡ a) × Within n (bodyAt p j) v
   unfolding consequence
   rule-of v a e =
-      let r = some-find (size p) (λ j. eqb (headAt p j) a && within n (bodyAt p j) v) e in
+      let r = exists-find (size p) (λ j. eqb (headAt p j) a && within n (bodyAt p j) v) e in
       let j : ℕ = r .0 in
       let t : Bool = eqb (headAt p j) a in
       let w : Bool = within n (bodyAt p j) v in
@@ -50,9 +50,9 @@ module _ (p : Program) where
       let r = rule-of M i e in
       subst (λ (a : ℕ). M a ≡ true) (r .2) (h (r .0) (r .1) (r .3))
 
-  plain-least : Least n (consequence p) none (plainHeld p)
+  plain-least : Least n (consequence p) emptySet (plainHeld p)
   unfolding plainHeld
-  plain-least = reached-least n (consequence p) none consequence-mono (λ i l e. clash e refl)
+  plain-least = reached-least n (consequence p) emptySet consequence-mono (λ i l e. clash e refl)
 
   -- what the plain route reaches is a model
   pub plain-model : Sound p → Model p (plainHeld p)
@@ -72,7 +72,7 @@ module _ (p : Program) where
   plain-bound =
       let all : Set = λ i. true in
       let b : count n all ≤ n = count-le n all in
-      let r : rounds n (consequence p) none ≤ suc (count n all) =
-      rounds-join n (consequence p) none consequence-mono (λ i l e. clash e refl) all (λ t i l e. or-right (none i) refl)
+      let r : rounds n (consequence p) emptySet ≤ suc (count n all) =
+      rounds-join n (consequence p) emptySet consequence-mono (λ i l e. clash e refl) all (λ t i l e. or-right (emptySet i) refl)
       in
       omega arith

@@ -2,18 +2,18 @@
 -- Assumes nothing.
 use mathlib.Core.Path.{_≡_, refl}
 use mathlib.Core.Bool.{true}
-use Rattle.sets.specs.Set.{pick, every, some, count, within, meets, same, image}
+use Rattle.sets.specs.Set.{pick, every, exists, count, within, meets, same, image}
 use Rattle.sets.specs.Steps.{after, roundsIn, rounds, reached}
 use Rattle.program.specs.Program.{consequence, plainHeld}
-use Rattle.program.specs.System.{anyHead, allStep, round, unfold1, unfolded, roundsOf, heldBy, c, h}
+use Rattle.program.specs.System.{anyHead, allStep, round, unfoldOnce, unfolded, roundsOf, heldBy, c, h}
 use Rattle.program.specs.Standard.{ways, several, helper, home, full, bodied, allRow, anyRow, startSet}
-use Rattle.program.specs.Samples.{listed, runAgrees, runsAgree, agrees, allAgree}
+use Rattle.program.specs.Samples.{listed, upTo, runAgrees, runsAgree, agrees, allAgree}
 use Rattle.program.specs.Table.{samples, foldedRows}
 
 pub samples-agree : allAgree samples ≡ true
-unfolding pick every some count within meets same image after roundsIn rounds reached consequence plainHeld anyHead allStep round unfold1 unfolded roundsOf heldBy c h ways several helper home full bodied allRow anyRow startSet listed runAgrees runsAgree agrees allAgree
+unfolding pick every exists count within meets same image after roundsIn rounds reached consequence plainHeld anyHead allStep round unfoldOnce unfolded roundsOf heldBy c h ways several helper home full bodied allRow anyRow startSet listed upTo runAgrees runsAgree agrees allAgree
 samples-agree = refl
 
 pub folded-rows : foldedRows ≡ true
-unfolding pick every some count within meets same image anyHead unfold1 unfolded ways several helper home full bodied allRow listed foldedRows
+unfolding pick every exists count within meets same image anyHead unfoldOnce unfolded ways several helper home full bodied allRow listed foldedRows
 folded-rows = refl

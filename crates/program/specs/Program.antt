@@ -7,7 +7,7 @@ use mathlib.Core.List.{List}
 use Prim.Native.Nat.{ℕ, _<_}
 use lib.Dec.{eqb}
 use lib.ListN.{length, getD}
-use Rattle.sets.specs.Set.{Set, Within, within, some, none}
+use Rattle.sets.specs.Set.{Set, Within, within, exists, emptySet}
 use Rattle.sets.specs.Steps.{rounds, reached}
 
 -- head and body set, over names of any kind A: numbers here, spellings in a book
@@ -22,7 +22,7 @@ pub record Program : Type 0 where
 
 -- what stands past the last rule
 abbrev pub blank : Rule ℕ
-blank = record { head = 0; body = none }
+blank = record { head = 0; body = emptySet }
 
 -- the number of rules
 abbrev pub size : Program → ℕ
@@ -51,11 +51,12 @@ InEveryModel p a = (M : Set) → Model p M → M a ≡ true
 
 -- the immediate consequences of v: the heads of rules whose body lies in v
 unfoldable pub consequence : Program → Set → Set
-consequence p v a = some (size p) (λ j. eqb (headAt p j) a && within (p .names) (bodyAt p j) v)
+consequence p v a = exists (size p) (λ j. eqb (headAt p j) a && within (p .names) (bodyAt p j) v)
 
--- the plain route: rounds from the empty set, and the set they reach
+-- the plain route: its rounds from the empty set
 unfoldable pub plainRounds : Program → ℕ
-plainRounds p = rounds (p .names) (consequence p) none
+plainRounds p = rounds (p .names) (consequence p) emptySet
 
+-- and the set that they reach
 unfoldable pub plainHeld : Program → Set
-plainHeld p = reached (p .names) (consequence p) none
+plainHeld p = reached (p .names) (consequence p) emptySet

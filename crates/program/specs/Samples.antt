@@ -2,7 +2,7 @@
 -- Assumes nothing.
 use mathlib.Core.Bool.{Bool, true, false, _&&_, _||_}
 use mathlib.Core.List.{List, [], _∷_}
-use Prim.Native.Nat.{ℕ}
+use Prim.Native.Nat.{ℕ, zero, suc}
 use lib.Dec.{eqb}
 use Rattle.sets.specs.Set.{Set, same}
 use Rattle.program.specs.Program.{Rule, Program, plainHeld}
@@ -23,12 +23,14 @@ pub record Run : Type 0 where
   pub folds : ℕ
   pub rounds : ℕ
 
+-- k folds take r rounds
 abbrev pub run : ℕ → ℕ → Run
 run k r = record { folds = k; rounds = r }
 
--- the same number of rounds for every fold number from 0 to 8
-abbrev pub always : ℕ → List Run
-always r = run 0 r ∷ run 1 r ∷ run 2 r ∷ run 3 r ∷ run 4 r ∷ run 5 r ∷ run 6 r ∷ run 7 r ∷ run 8 r ∷ []
+-- the same number of rounds for every fold number from k down to 0
+unfoldable pub upTo : ℕ → ℕ → List Run
+upTo zero r = run 0 r ∷ []
+upTo (suc k) r = run (suc k) r ∷ upTo k r
 
 -- a book's rules, its held names, its runs, c and h
 pub record Sample : Type 0 where
@@ -38,11 +40,13 @@ pub record Sample : Type 0 where
   pub counted : ℕ
   pub heads : ℕ
 
+-- the rounds and the held names of one run
 unfoldable pub runAgrees : Sample → Run → Bool
 runAgrees b r =
     let s : System = folded (r .folds) (standard (b .book)) in
     eqb (roundsOf s) (r .rounds) && same (b .book .names) (heldBy s) (listed (b .held))
 
+-- those of each run
 unfoldable pub runsAgree : Sample → List Run → Bool
 runsAgree b [] = true
 runsAgree b (r ∷ rs) = runAgrees b r && runsAgree b rs
@@ -53,10 +57,12 @@ agrees b =
     runsAgree b (b .runs) && (same (b .book .names) (plainHeld (b .book)) (listed (b .held))
     && (eqb (c (standard (b .book))) (b .counted) && eqb (h (standard (b .book))) (b .heads)))
 
+-- every sample of a table
 unfoldable pub allAgree : List Sample → Bool
 allAgree [] = true
 allAgree (b ∷ bs) = agrees b && allAgree bs
 
+-- a sample by its names, rules, held names, runs, c and h
 abbrev pub sample : ℕ → List (Rule ℕ) → List ℕ → List Run → ℕ → ℕ → Sample
 sample n rules held runs c h =
     record { book = record { names = n; rules = rules }; held = held; runs = runs; counted = c; heads = h }

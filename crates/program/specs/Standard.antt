@@ -5,7 +5,7 @@ use mathlib.Core.Path.{_≡_}
 use mathlib.Core.Bool.{true, false, not, _&&_}
 use Prim.Native.Nat.{ℕ, _+_}
 use lib.Dec.{eqb, leb}
-use Rattle.sets.specs.Set.{Set, pick, some, count, only, image}
+use Rattle.sets.specs.Set.{Set, pick, exists, count, only, image}
 use Rattle.program.specs.Program.{Program, size, headAt, bodyAt}
 use Rattle.program.specs.System.{System}
 
@@ -27,7 +27,7 @@ home p j = pick (several p j) (helper p j) (headAt p j)
 
 -- rule j has a body that is not empty
 unfoldable pub full : Program → Set
-full p j = some (p .names) (bodyAt p j)
+full p j = exists (p .names) (bodyAt p j)
 
 -- the atoms at which a rule with a body stands: those that c counts
 unfoldable pub bodied : Program → Set
@@ -39,7 +39,7 @@ allRow p i k = pick (bodied p i) (image (size p) (home p) (λ j. bodyAt p j k) i
 
 -- the "any" row of a name: its helpers
 unfoldable pub anyRow : Program → ℕ → Set
-anyRow p i k = some (size p) (λ j. several p j && (eqb (headAt p j) i && eqb (helper p j) k))
+anyRow p i k = exists (size p) (λ j. several p j && (eqb (headAt p j) i && eqb (helper p j) k))
 
 -- the start set: the homes of rules with an empty body
 unfoldable pub startSet : Program → Set

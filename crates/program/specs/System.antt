@@ -3,7 +3,7 @@
 use mathlib.Core.Path.{_≡_}
 use mathlib.Core.Bool.{true, false, _&&_}
 use Prim.Native.Nat.{ℕ, zero, suc, _<_}
-use Rattle.sets.specs.Set.{Set, Same, pick, some, within, meets, only, count}
+use Rattle.sets.specs.Set.{Set, Same, pick, exists, within, meets, only, count}
 use Rattle.sets.specs.Steps.{rounds, reached}
 
 -- the rows of each atom, the start set, and the atoms that c counts
@@ -16,7 +16,7 @@ pub record System : Type 0 where
 
 -- an atom whose "any" row is not empty
 unfoldable pub anyHead : System → Set
-anyHead s i = some (s .atoms) (s .any i)
+anyHead s i = exists (s .atoms) (s .any i)
 
 -- the atoms whose row lies within v
 unfoldable pub allStep : ℕ → (ℕ → Set) → Set → Set
@@ -28,30 +28,32 @@ unfoldable pub round : System → Set → Set
 round s v i = pick (anyHead s i) (meets (s .atoms) (s .any i) v) (allStep (s .atoms) (s .all) v i)
 
 -- One fold: new row i is the union of the old rows j for all j in old row i.
-unfoldable pub unfold1 : ℕ → (ℕ → Set) → ℕ → Set
-unfold1 m rows i k = some m (λ j. rows i j && rows j k)
+unfoldable pub unfoldOnce : ℕ → (ℕ → Set) → ℕ → Set
+unfoldOnce m rows i k = exists m (λ j. rows i j && rows j k)
 
 -- "All" rows after k folds. "Any" rows are not folded.
 unfoldable pub unfolded : ℕ → ℕ → (ℕ → Set) → ℕ → Set
 unfolded zero m rows = rows
-unfolded (suc k) m rows = unfold1 m (unfolded k m rows)
+unfolded (suc k) m rows = unfoldOnce m (unfolded k m rows)
 
 -- the system after k folds
 abbrev pub folded : ℕ → System → System
 folded k s =
     record { atoms = s .atoms; all = unfolded k (s .atoms) (s .all); any = s .any; start = s .start; counted = s .counted }
 
--- the rounds from the start set, and the set they reach
+-- the rounds from the start set
 unfoldable pub roundsOf : System → ℕ
 roundsOf s = rounds (s .atoms) (round s) (s .start)
 
+-- the set that they reach
 unfoldable pub heldBy : System → Set
 heldBy s = reached (s .atoms) (round s) (s .start)
 
--- c and h of document 01
+-- document 01's c: how many atoms are counted
 unfoldable pub c : System → ℕ
 c s = count (s .atoms) (s .counted)
 
+-- document 01's h: how many "any" rows are not empty
 unfoldable pub h : System → ℕ
 h s = count (s .atoms) (anyHead s)
 

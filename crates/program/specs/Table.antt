@@ -6,19 +6,19 @@ use mathlib.Core.List.{List, [], _∷_}
 use Rattle.sets.specs.Set.{same}
 use Rattle.program.specs.System.{System, folded}
 use Rattle.program.specs.Standard.{standard}
-use Rattle.program.specs.Samples.{Sample, sample, rule, run, always, listed}
+use Rattle.program.specs.Samples.{Sample, sample, rule, run, upTo, listed}
 
 -- no rule at all
 abbrev pub emptyBook : Sample
-emptyBook = sample 0 [] [] (always 1) 0 0
+emptyBook = sample 0 [] [] (upTo 8 1) 0 0
 
 -- a:
 abbrev pub factBook : Sample
-factBook = sample 1 (rule 0 [] ∷ []) (0 ∷ []) (always 1) 0 0
+factBook = sample 1 (rule 0 [] ∷ []) (0 ∷ []) (upTo 8 1) 0 0
 
 -- a:a
 abbrev pub selfBook : Sample
-selfBook = sample 1 (rule 0 (0 ∷ []) ∷ []) [] (always 1) 1 0
+selfBook = sample 1 (rule 0 (0 ∷ []) ∷ []) [] (upTo 8 1) 1 0
 
 -- p:q/q:p
 abbrev pub pairBook : Sample
@@ -48,7 +48,7 @@ printedBook =
 -- p:q s t/q:p t/s:t/t:
 abbrev pub foldBook : Sample
 foldBook =
-    sample 4 (rule 0 (1 ∷ 2 ∷ 3 ∷ []) ∷ rule 1 (0 ∷ 3 ∷ []) ∷ rule 2 (3 ∷ []) ∷ rule 3 [] ∷ []) (2 ∷ 3 ∷ []) (always 2) 3 0
+    sample 4 (rule 0 (1 ∷ 2 ∷ 3 ∷ []) ∷ rule 1 (0 ∷ 3 ∷ []) ∷ rule 2 (3 ∷ []) ∷ rule 3 [] ∷ []) (2 ∷ 3 ∷ []) (upTo 8 2) 3 0
 
 -- a:/a:b
 abbrev pub factAmongBook : Sample

@@ -17,9 +17,9 @@ use mir.Syntax.{w64}
 use mir.Val.{Fits}
 use borrow.Author.Tests.{eq-eqb, ne-eqb}
 use Rattle.limits.specs.Book.{wordBits}
-use Rattle.sets.specs.Set.{Set, within, meets, same, some, count}
+use Rattle.sets.specs.Set.{Set, within, meets, same, exists, count}
 use Rattle.words.specs.Row.{bit, row, part, Words}
-use Rattle.words.proofs.Rows.{withinWord, meetsWord, someWord, within-more, meets-more, same-more, some-more, count-more}
+use Rattle.words.proofs.Rows.{withinWord, meetsWord, existsWord, within-more, meets-more, same-more, exists-more, count-more}
 use Rattle.words.proofs.Areas.{words-part}
 
 -- bit b of word k is atom a
@@ -142,16 +142,16 @@ module _ (at start w : ℕ) (xs ys : List ℕ) (p : Known xs) (q : Known ys) (j 
 
 -- the row at `at` of xs, w words
 module _ (at w : ℕ) (xs : List ℕ) (p : Known xs) (j : ℕ) (l : j < w) where
-  pub some-on : some (j * wordBits) (row (part at w xs)) ≡ false → getD xs (at + j) 0 ≡ 0
-      → some ((j + 1) * wordBits) (row (part at w xs)) ≡ false
+  pub exists-on : exists (j * wordBits) (row (part at w xs)) ≡ false → getD xs (at + j) 0 ≡ 0
+      → exists ((j + 1) * wordBits) (row (part at w xs)) ≡ false
   unfolding so-far
-  some-on h e =
-      on (λ m f g. some m f) _||_ false true any someWord (λ j xs ys p q. some-more j xs p) at at w xs xs (in-range xs p) (in-range xs p) j l h (ap not (eq-eqb _ _ e))
+  exists-on h e =
+      on (λ m f g. exists m f) _||_ false true any existsWord (λ j xs ys p q. exists-more j xs p) at at w xs xs (in-range xs p) (in-range xs p) j l h (ap not (eq-eqb _ _ e))
 
-  pub some-off : (getD xs (at + j) 0 ≡ 0 → ⊥) → true ≡ some (w * wordBits) (row (part at w xs))
+  pub exists-off : (getD xs (at + j) 0 ≡ 0 → ⊥) → true ≡ exists (w * wordBits) (row (part at w xs))
   unfolding so-far
-  some-off e =
-      off (λ m f g. some m f) _||_ false true any someWord (λ j xs ys p q. some-more j xs p) at at w xs xs (in-range xs p) (in-range xs p) j l (ap not (ne-eqb _ _ e))
+  exists-off e =
+      off (λ m f g. exists m f) _||_ false true any existsWord (λ j xs ys p q. exists-more j xs p) at at w xs xs (in-range xs p) (in-range xs p) j l (ap not (ne-eqb _ _ e))
 
   pub count-on : (n : ℕ) → n ≡ count (j * wordBits) (row (part at w xs))
       → n + ones (getD xs (at + j) 0) ≡ count ((j + 1) * wordBits) (row (part at w xs))

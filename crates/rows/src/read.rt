@@ -64,7 +64,7 @@ pub fn equal(a: &[u64], at: usize, b: &[u64], start: usize, width: usize) -> boo
 // Whether the row has no atom.
 pub fn empty(area: &[u64], at: usize, width: usize) -> bool
     requires { ⌜ at + width ≤ length (now area) ⌝ }
-    ensures { λ r. ⌜ r ≡ not (Set.some (width * wordBits) (row (part at width (now (area .entry))))) ⌝ }
+    ensures { λ r. ⌜ r ≡ not (Set.exists (width * wordBits) (row (part at width (now (area .entry))))) ⌝ }
 {
     let mut j = 0;
     while j < width {

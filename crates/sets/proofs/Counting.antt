@@ -8,9 +8,9 @@ use native.Mathlib.Nat.{not-suc-le-zero, eq-or-lt-of-le, le-of-suc-le-suc}
 use native.Mathlib.Omega.{arith}
 use lib.Dec.{eqb, ltb}
 use borrow.Author.Tests.{ltb-true, ltb-false, eqb-true, eq-eqb, ne-eqb}
-use Rattle.sets.specs.Set.{Set, Within, Same, some, count, union, only, image}
+use Rattle.sets.specs.Set.{Set, Within, Same, exists, count, union, only, image}
 use Rattle.sets.proofs.Logic.{either, not-true, and-left, and-right, and-make, pick-true, pick-false, or-left, or-right}
-use Rattle.sets.proofs.Tests.{same-within, same-sym, some-make, some-find, some-none}
+use Rattle.sets.proofs.Tests.{same-within, same-sym, exists-make, exists-find, exists-none}
 
 -- one number more, which is a member or not
 pub count-in : (n : ℕ) (f : Set) → f n ≡ true → count (suc n) f ≡ suc (count n f)
@@ -118,9 +118,9 @@ count-two n i j f l b p q =
 pub count-pos : (n i : ℕ) (f : Set) → i < n → f i ≡ true → 0 < count n f
 count-pos n i f l e = let a : count i f < count n f = rank-less i n f l e in omega arith
 
-pub count-some : (n : ℕ) (f : Set) → 0 < count n f → (i : ℕ) × (i < n) × (f i ≡ true)
-count-some n f l =
-    either (some n f) (λ e. some-find n f e) (λ e. let z : count n f ≡ 0 = count-none n f (some-none n f e) in absurd (omega arith))
+pub count-find : (n : ℕ) (f : Set) → 0 < count n f → (i : ℕ) × (i < n) × (f i ≡ true)
+count-find n f l =
+    either (exists n f) (λ e. exists-find n f e) (λ e. let z : count n f ≡ 0 = count-none n f (exists-none n f e) in absurd (omega arith))
 
 -- a new member counts one more
 pub count-add-one : (n i : ℕ) (f : Set) → i < n → f i ≡ false → count n (union f (only i)) ≡ suc (count n f)
@@ -146,12 +146,12 @@ count-add-one (suc n) i f l e =
 -- an image has a member's place, and each of its places has a member
 pub image-make : (r : ℕ) (g : ℕ → ℕ) (f : Set) (j : ℕ) → j < r → f j ≡ true → image r g f (g j) ≡ true
 unfolding image
-image-make r g f j l e = some-make r (λ k. eqb (g k) (g j) && f k) j l (and-make (eq-eqb (g j) (g j) refl) e)
+image-make r g f j l e = exists-make r (λ k. eqb (g k) (g j) && f k) j l (and-make (eq-eqb (g j) (g j) refl) e)
 
 pub image-find : (r : ℕ) (g : ℕ → ℕ) (f : Set) (i : ℕ) → image r g f i ≡ true → (j : ℕ) × (j < r) × (g j ≡ i) × (f j ≡ true)
 unfolding image
 image-find r g f i e =
-    let q = some-find r (λ k. eqb (g k) i && f k) e in
+    let q = exists-find r (λ k. eqb (g k) i && f k) e in
     let j : ℕ = q .0 in
     (j, q .1, eqb-true (g j) i (and-left (eqb (g j) i) (f j) (q .2)), and-right (eqb (g j) i) (f j) (q .2))
 
@@ -160,7 +160,7 @@ pub count-image : (n r : ℕ) (g : ℕ → ℕ) (f : Set)
     → ((j : ℕ) → j < r → g j < n)
     → ((j k : ℕ) → j < r → k < r → g j ≡ g k → j ≡ k)
     → count n (image r g f) ≡ count r f
-count-image n zero g f into inj = count-none n (image zero g f) (λ i l. unfold image some in refl) ∙ unfold count in refl
+count-image n zero g f into inj = count-none n (image zero g f) (λ i l. unfold image exists in refl) ∙ unfold count in refl
 count-image n (suc r) g f into inj =
     let ih : count n (image r g f) ≡ count r f = count-image n r g f (λ j l. into j (omega arith)) (λ j k a b. inj j k (omega arith) (omega arith)) in
     either (f r)
@@ -175,12 +175,12 @@ count-image n (suc r) g f into inj =
     in
     let one-more : count n (image (suc r) g f) ≡ count n (union (image r g f) (only (g r))) =
     count-same n (image (suc r) g f) (union (image r g f) (only (g r)))
-    (λ i l. unfold image some in grown (eqb (g r) i) (f r) (some r (λ j. eqb (g j) i && f j)) e)
+    (λ i l. unfold image exists in grown (eqb (g r) i) (f r) (exists r (λ j. eqb (g j) i && f j)) e)
     in
     one-more ∙ count-add-one n (g r) (image r g f) (into r (omega arith)) new ∙ ap suc ih ∙ sym (count-in r f e))
     (λ e.
     count-same n (image (suc r) g f) (image r g f)
-    (λ i l. unfold image some in kept (eqb (g r) i) (f r) (some r (λ j. eqb (g j) i && f j)) e)
+    (λ i l. unfold image exists in kept (eqb (g r) i) (f r) (exists r (λ j. eqb (g j) i && f j)) e)
     ∙ ih ∙ sym (count-out r f e))
   where
     grown : (a b c : Bool) → b ≡ true → (a && b) || c ≡ c || a

@@ -4,7 +4,7 @@ use mathlib.Core.Path.{_≡_, refl, sym}
 use mathlib.Core.Bool.{Bool, true, false, _&&_, _||_, and-true, or-false}
 use Prim.Native.Nat.{ℕ, zero, suc, _+_}
 use native.Mathlib.Nat.{add-zero, add-suc}
-use Rattle.sets.specs.Set.{Set, pick, every, some, count}
+use Rattle.sets.specs.Set.{Set, pick, every, exists, count}
 
 -- the parts of a test change places
 and-swap : (a b c : Bool) → a && (b && c) ≡ b && (a && c)
@@ -30,10 +30,10 @@ every-add n zero p = rw add-zero (sym (and-true (every n p)))
 every-add n (suc k) p = rw (add-suc, every-add n k p) (and-swap (p (n + k)) (every n p) (every k (λ i. p (n + i))))
 
 -- some: the first n, or the k after them
-pub some-add : (n k : ℕ) (p : Set) → some (n + k) p ≡ some n p || some k (λ i. p (n + i))
-unfolding some
-some-add n zero p = rw add-zero (sym (or-false (some n p)))
-some-add n (suc k) p = rw (add-suc, some-add n k p) (or-swap (p (n + k)) (some n p) (some k (λ i. p (n + i))))
+pub exists-add : (n k : ℕ) (p : Set) → exists (n + k) p ≡ exists n p || exists k (λ i. p (n + i))
+unfolding exists
+exists-add n zero p = rw add-zero (sym (or-false (exists n p)))
+exists-add n (suc k) p = rw (add-suc, exists-add n k p) (or-swap (p (n + k)) (exists n p) (exists k (λ i. p (n + i))))
 
 -- count: the first n, plus the k after them
 pub count-add : (n k : ℕ) (f : Set) → count (n + k) f ≡ count n f + count k (λ i. f (n + i))

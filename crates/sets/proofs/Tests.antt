@@ -7,7 +7,7 @@ use Prim.Native.Nat.{ℕ, zero, suc, _<_}
 use native.Mathlib.Nat.{not-suc-le-zero, eq-or-lt-of-le, le-of-suc-le-suc, lt-suc-self, le-step}
 use native.Mathlib.Omega.{arith}
 use borrow.Author.Tests.{eqb-true, eq-eqb}
-use Rattle.sets.specs.Set.{Set, Within, Same, every, some, within, meets, same, only}
+use Rattle.sets.specs.Set.{Set, Within, Same, every, exists, within, meets, same, only}
 use Rattle.sets.proofs.Logic.{either, clash, not-true, iff, and-left, and-right, and-make, or-left, or-right, or-elim, of-not, not-of-false, beq-eq, beq-refl}
 
 -- what holds below n and at n holds below n + 1
@@ -25,22 +25,22 @@ unfolding every
 every-make zero p h = refl
 every-make (suc n) p h = and-make (h n (omega arith)) (every-make n p (λ i l. h i (omega arith)))
 
-pub some-make : (n : ℕ) (p : Set) (i : ℕ) → i < n → p i ≡ true → some n p ≡ true
-unfolding some
-some-make zero p i l e = absurd (not-suc-le-zero l)
-some-make (suc n) p i l e =
-    ⊎-elim (λ q. or-left (some n p) (subst (λ k. p k ≡ true) q e)) (λ lt. or-right (p n) (some-make n p i lt e))
+pub exists-make : (n : ℕ) (p : Set) (i : ℕ) → i < n → p i ≡ true → exists n p ≡ true
+unfolding exists
+exists-make zero p i l e = absurd (not-suc-le-zero l)
+exists-make (suc n) p i l e =
+    ⊎-elim (λ q. or-left (exists n p) (subst (λ k. p k ≡ true) q e)) (λ lt. or-right (p n) (exists-make n p i lt e))
     (eq-or-lt-of-le (le-of-suc-le-suc l))
 
-pub some-find : (n : ℕ) (p : Set) → some n p ≡ true → (i : ℕ) × (i < n) × (p i ≡ true)
-unfolding some
-some-find zero p e = clash e refl
-some-find (suc n) p e =
-    or-elim (p n) (some n p) e (λ q. (n, omega arith, q))
-    (λ q. let r = some-find n p q in let l : r .0 < n = r .1 in (r .0, omega arith, r .2))
+pub exists-find : (n : ℕ) (p : Set) → exists n p ≡ true → (i : ℕ) × (i < n) × (p i ≡ true)
+unfolding exists
+exists-find zero p e = clash e refl
+exists-find (suc n) p e =
+    or-elim (p n) (exists n p) e (λ q. (n, omega arith, q))
+    (λ q. let r = exists-find n p q in let l : r .0 < n = r .1 in (r .0, omega arith, r .2))
 
-pub some-none : (n : ℕ) (p : Set) → some n p ≡ false → (i : ℕ) → i < n → p i ≡ false
-some-none n p e i l = not-true (p i) (λ t. clash (some-make n p i l t) e)
+pub exists-none : (n : ℕ) (p : Set) → exists n p ≡ false → (i : ℕ) → i < n → p i ≡ false
+exists-none n p e i l = not-true (p i) (λ t. clash (exists-make n p i l t) e)
 
 pub within-at : (n : ℕ) (f g : Set) → within n f g ≡ true → Within n f g
 unfolding within
@@ -55,12 +55,12 @@ within-make n f g h =
 
 pub meets-make : (n : ℕ) (f g : Set) (i : ℕ) → i < n → f i ≡ true → g i ≡ true → meets n f g ≡ true
 unfolding meets
-meets-make n f g i l p q = some-make n (λ i. f i && g i) i l (and-make p q)
+meets-make n f g i l p q = exists-make n (λ i. f i && g i) i l (and-make p q)
 
 pub meets-find : (n : ℕ) (f g : Set) → meets n f g ≡ true → (i : ℕ) × (i < n) × (f i ≡ true) × (g i ≡ true)
 unfolding meets
 meets-find n f g e =
-    let r = some-find n (λ i. f i && g i) e in
+    let r = exists-find n (λ i. f i && g i) e in
     let i : ℕ = r .0 in
     (i, r .1, and-left (f i) (g i) (r .2), and-right (f i) (g i) (r .2))
 
@@ -89,10 +89,10 @@ every-same zero f g h = refl
 every-same (suc n) f g h = ap₂ _&&_ (h n (lt-suc-self n)) (every-same n f g (λ i l. h i (le-step l)))
 
 -- and alike of some number
-pub some-same : (n : ℕ) (f g : Set) → Same n f g → some n f ≡ some n g
-unfolding some
-some-same zero f g h = refl
-some-same (suc n) f g h = ap₂ _||_ (h n (lt-suc-self n)) (some-same n f g (λ i l. h i (le-step l)))
+pub exists-same : (n : ℕ) (f g : Set) → Same n f g → exists n f ≡ exists n g
+unfolding exists
+exists-same zero f g h = refl
+exists-same (suc n) f g h = ap₂ _||_ (h n (lt-suc-self n)) (exists-same n f g (λ i l. h i (le-step l)))
 
 -- sets that are the same below n lie within one another alike
 pub within-same : (n : ℕ) (f f′ g g′ : Set) → Same n f f′ → Same n g g′ → within n f g ≡ within n f′ g′
@@ -104,7 +104,7 @@ within-same n f f′ g g′ p q =
 pub meets-same : (n : ℕ) (f f′ g g′ : Set) → Same n f f′ → Same n g g′ → meets n f g ≡ meets n f′ g′
 unfolding meets
 meets-same n f f′ g g′ p q =
-    some-same n (λ i. f i && g i) (λ i. f′ i && g′ i) (λ i l. ap₂ _&&_ (p i l) (q i l))
+    exists-same n (λ i. f i && g i) (λ i. f′ i && g′ i) (λ i l. ap₂ _&&_ (p i l) (q i l))
 
 -- and are alike the same
 pub same-same : (n : ℕ) (f f′ g g′ : Set) → Same n f f′ → Same n g g′ → same n f g ≡ same n f′ g′
@@ -113,10 +113,10 @@ same-same n f f′ g g′ p q =
     every-same n (λ i. Bool·beq (f i) (g i)) (λ i. Bool·beq (f′ i) (g′ i)) (λ i l. ap₂ Bool·beq (p i l) (q i l))
 
 -- none: not some is every not
-pub not-some : (n : ℕ) (p : Set) → not (some n p) ≡ every n (λ i. not (p i))
-unfolding some every
-not-some zero p = refl
-not-some (suc n) p = not-or (p n) (some n p) ∙ ap (λ (b : Bool). not (p n) && b) (not-some n p)
+pub not-exists : (n : ℕ) (p : Set) → not (exists n p) ≡ every n (λ i. not (p i))
+unfolding exists every
+not-exists zero p = refl
+not-exists (suc n) p = not-or (p n) (exists n p) ∙ ap (λ (b : Bool). not (p n) && b) (not-exists n p)
   where
     not-or : (a b : Bool) → not (a || b) ≡ not a && not b
     not-or true b = refl

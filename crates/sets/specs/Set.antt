@@ -34,9 +34,9 @@ every zero p = true
 every (suc n) p = p n && every n p
 
 -- the test holds of some number below n
-unfoldable pub some : ℕ → Set → Bool
-some zero p = false
-some (suc n) p = p n || some n p
+unfoldable pub exists : ℕ → Set → Bool
+exists zero p = false
+exists (suc n) p = p n || exists n p
 
 -- the number of members below n
 unfoldable pub count : ℕ → Set → ℕ
@@ -49,15 +49,15 @@ within n f g = every n (λ i. not (f i) || g i)
 
 -- f and g have a common member below n
 unfoldable pub meets : ℕ → Set → Set → Bool
-meets n f g = some n (λ i. f i && g i)
+meets n f g = exists n (λ i. f i && g i)
 
 -- the test for Same
 unfoldable pub same : ℕ → Set → Set → Bool
 same n f g = every n (λ i. Bool·beq (f i) (g i))
 
 -- the empty set
-abbrev pub none : Set
-none i = false
+abbrev pub emptySet : Set
+emptySet i = false
 
 -- the set of i alone
 abbrev pub only : ℕ → Set
@@ -67,13 +67,9 @@ only i k = eqb i k
 abbrev pub union : Set → Set → Set
 union f g i = f i || g i
 
--- the members of f that g has not
-abbrev pub minus : Set → Set → Set
-minus f g i = f i && not (g i)
-
 -- the places g j of the members j of f below r
 unfoldable pub image : ℕ → (ℕ → ℕ) → Set → Set
-image r g f i = some r (λ j. eqb (g j) i && f j)
+image r g f i = exists r (λ j. eqb (g j) i && f j)
 
 -- the first member of f at or past i within k more numbers, else i + k
 unfoldable pub next : ℕ → Set → ℕ → ℕ

@@ -12,10 +12,10 @@ use lib.Arith.{lt-one}
 use lib.Bits.{bitAnd, bitOr, and-step, or-step, and-le-l, block-half, block-odd}
 use lib.Pow.{pow-pos, pow-mono, shr-shr, high}
 use lib.Count.{ones, ones-step, trailingZeros, under}
-use Rattle.sets.specs.Set.{Set, Same, one, pick, every, some, count, within, meets, same, next}
+use Rattle.sets.specs.Set.{Set, Same, one, pick, every, exists, count, within, meets, same, next}
 use Rattle.words.specs.Row.{bit, binary}
 use Rattle.sets.proofs.Logic.{iff, beq-eq, beq-refl}
-use Rattle.sets.proofs.Tests.{every-at, every-make, every-same, some-same, not-some}
+use Rattle.sets.proofs.Tests.{every-at, every-make, every-same, exists-same, not-exists}
 use Rattle.sets.proofs.Ranges.{count-add}
 use Rattle.sets.proofs.Walk.{next-suc}
 
@@ -140,31 +140,31 @@ bits-equal (suc k) a b p q h =
         (by-digits (λ y. true ≡ eqb y 1 → 1 ≡ y) (λ e. absurd (true≢false e)) (λ e. refl) b) a
 
 -- a word of k bits is 0 where none is set
-pub zero-none : (k a : ℕ) → a < 2 ^ k → eqb a 0 ≡ not (some k (bit a))
-zero-none k a h = iff (eqb a 0) (not (some k (bit a))) empty zeros
+pub zero-none : (k a : ℕ) → a < 2 ^ k → eqb a 0 ≡ not (exists k (bit a))
+zero-none k a h = iff (eqb a 0) (not (exists k (bit a))) empty zeros
   where
-    empty : eqb a 0 ≡ true → not (some k (bit a)) ≡ true
-    empty e = not-some k (bit a) ∙ every-make k (λ i. not (bit a i)) (λ i l. ap (λ (x : ℕ). not (bit x i)) (eqb-true a 0 e) ∙ ap not (bit-zero i))
+    empty : eqb a 0 ≡ true → not (exists k (bit a)) ≡ true
+    empty e = not-exists k (bit a) ∙ every-make k (λ i. not (bit a i)) (λ i l. ap (λ (x : ℕ). not (bit x i)) (eqb-true a 0 e) ∙ ap not (bit-zero i))
 
-    zeros : not (some k (bit a)) ≡ true → eqb a 0 ≡ true
+    zeros : not (exists k (bit a)) ≡ true → eqb a 0 ≡ true
     zeros e =
         eq-eqb a 0
         (bits-equal k a 0 h (pow-pos k)
-        (λ i l. not-true (bit a i) (every-at k (λ i. not (bit a i)) (sym (not-some k (bit a)) ∙ e) i l) ∙ sym (bit-zero i)))
+        (λ i l. not-true (bit a i) (every-at k (λ i. not (bit a i)) (sym (not-exists k (bit a)) ∙ e) i l) ∙ sym (bit-zero i)))
 
 -- the and of two words is 0 where they have no bit in common
 pub and-meets : (k a b : ℕ) → a < 2 ^ k → b < 2 ^ k → eqb (bitAnd a b) 0 ≡ not (meets k (bit a) (bit b))
 unfolding meets
 and-meets k a b p q =
     zero-none k (bitAnd a b) (lt-of-le-of-lt (and-le-l a b) p)
-    ∙ ap not (some-same k (bit (bitAnd a b)) (λ i. bit a i && bit b i) (λ i l. bit-and a b i))
+    ∙ ap not (exists-same k (bit (bitAnd a b)) (λ i. bit a i && bit b i) (λ i l. bit-and a b i))
 
 -- the and with the complement is 0 where the bits of a lie within those of b
 pub and-not-within : (k a b : ℕ) → a < 2 ^ k → b < 2 ^ k → eqb (bitAnd a ((2 ^ k - 1) - b)) 0 ≡ within k (bit a) (bit b)
 unfolding within
 and-not-within k a b p q =
     zero-none k (bitAnd a ((2 ^ k - 1) - b)) (lt-of-le-of-lt (and-le-l a ((2 ^ k - 1) - b)) p)
-    ∙ not-some k (bit (bitAnd a ((2 ^ k - 1) - b)))
+    ∙ not-exists k (bit (bitAnd a ((2 ^ k - 1) - b)))
     ∙ every-same k (λ i. not (bit (bitAnd a ((2 ^ k - 1) - b)) i)) (λ i. not (bit a i) || bit b i) at
   where
     outside : (x y : Bool) → not (x && not y) ≡ not x || y

@@ -13,13 +13,13 @@ use lib.Count.{ones}
 use lib.Pow.{pow-pos}
 use lib.ListN.{length, getD, drop, replicate, List·getD-eq-default}
 use lib.Seq.{getD-take, getD-drop}
-use Rattle.sets.specs.Set.{Set, Same, one, some, count, within, meets, same, none}
+use Rattle.sets.specs.Set.{Set, Same, one, exists, count, within, meets, same, emptySet}
 use Rattle.limits.specs.Book.{wordBits}
 use Rattle.words.specs.Row.{bit, row, Words, binary, pack, part}
 use Rattle.sets.proofs.Logic.{either}
-use Rattle.sets.proofs.Tests.{some-same, within-same, meets-same, same-same}
+use Rattle.sets.proofs.Tests.{exists-same, within-same, meets-same, same-same}
 use Rattle.sets.proofs.Counting.{count-same}
-use Rattle.sets.proofs.Ranges.{every-add, some-add, count-add}
+use Rattle.sets.proofs.Ranges.{every-add, exists-add, count-add}
 use Rattle.words.proofs.Bits.{bit-zero, bit-binary, binary-lt, binary-bit, zero-none, and-meets, and-not-within, word-same, ones-count}
 
 -- atom j * 64 + i is bit i of word j
@@ -123,16 +123,16 @@ row-ext xs ys e p q h =
     sym (pack-row xs p) ∙ pack-same (length xs) (row xs) (row ys) h ∙ ap (λ (w : ℕ). pack w (row ys)) e ∙ pack-row ys q
 
 -- the empty set makes 0
-binary-none : (k : ℕ) → binary k none ≡ 0
+binary-empty : (k : ℕ) → binary k emptySet ≡ 0
 unfolding binary
-binary-none zero = refl
-binary-none (suc k) = rw (zero-mul, zero-add) (binary-none k)
+binary-empty zero = refl
+binary-empty (suc k) = rw (zero-mul, zero-add) (binary-empty k)
 
 -- and is packed as zeros
-pub pack-none : (w : ℕ) → pack w none ≡ replicate w 0
+pub pack-empty : (w : ℕ) → pack w emptySet ≡ replicate w 0
 unfolding pack
-pack-none zero = refl
-pack-none (suc w) = ap₂ _∷_ (binary-none wordBits) (pack-none w)
+pack-empty zero = refl
+pack-empty (suc w) = ap₂ _∷_ (binary-empty wordBits) (pack-empty w)
 
 -- every word of a row of zeros is 0
 zero-word : (w k : ℕ) → _≡_ {A = ℕ} (getD (replicate w 0) k 0) 0
@@ -171,7 +171,7 @@ within-add n k f g = every-add n k (λ i. not (f i) || g i)
 
 meets-add : Joins meets _||_
 unfolding meets
-meets-add n k f g = some-add n k (λ i. f i && g i)
+meets-add n k f g = exists-add n k (λ i. f i && g i)
 
 same-add : Joins same _&&_
 unfolding same
@@ -184,8 +184,8 @@ withinWord x y = eqb (bitAnd x ((2 ^ wordBits - 1) - y)) 0
 abbrev pub meetsWord : ℕ → ℕ → Bool
 meetsWord x y = not (eqb (bitAnd x y) 0)
 
-abbrev pub someWord : ℕ → ℕ → Bool
-someWord x y = not (eqb x 0)
+abbrev pub existsWord : ℕ → ℕ → Bool
+existsWord x y = not (eqb x 0)
 
 within-at : OnWords within withinWord
 within-at x y p q f g a b = within-same wordBits f (bit x) g (bit y) a b ∙ sym (and-not-within wordBits x y p q)
@@ -197,9 +197,9 @@ meets-at x y p q f g a b =
 same-at : OnWords same eqb
 same-at x y p q f g a b = same-same wordBits f (bit x) g (bit y) a b ∙ sym (word-same wordBits x y p q)
 
-some-at : OnWords (λ m f g. some m f) someWord
-some-at x y p q f g a b =
-    some-same wordBits f (bit x) a ∙ sym (ap not (zero-none wordBits x p) ∙ Bool·not-not (some wordBits (bit x)))
+exists-at : OnWords (λ m f g. exists m f) existsWord
+exists-at x y p q f g a b =
+    exists-same wordBits f (bit x) a ∙ sym (ap not (zero-none wordBits x p) ∙ Bool·not-not (exists wordBits (bit x)))
 
 count-at : OnWords (λ m f g. count m f) (λ x y. ones x)
 count-at x y p q f g a b = count-same wordBits f (bit x) a ∙ sym (ones-count wordBits x p)
@@ -219,9 +219,9 @@ pub same-more : (j : ℕ) (xs ys : List ℕ) → Words xs → Words ys
     → same (suc j * wordBits) (row xs) (row ys) ≡ same (j * wordBits) (row xs) (row ys) && eqb (getD xs j 0) (getD ys j 0)
 same-more = more same _&&_ eqb same-add same-at
 
-pub some-more : (j : ℕ) (xs : List ℕ) → Words xs
-    → some (suc j * wordBits) (row xs) ≡ some (j * wordBits) (row xs) || not (eqb (getD xs j 0) 0)
-some-more j xs p = more (λ m f g. some m f) _||_ someWord (λ m k f g. some-add m k f) some-at j xs xs p p
+pub exists-more : (j : ℕ) (xs : List ℕ) → Words xs
+    → exists (suc j * wordBits) (row xs) ≡ exists (j * wordBits) (row xs) || not (eqb (getD xs j 0) 0)
+exists-more j xs p = more (λ m f g. exists m f) _||_ existsWord (λ m k f g. exists-add m k f) exists-at j xs xs p p
 
 pub count-more : (j : ℕ) (xs : List ℕ) → Words xs
     → count (suc j * wordBits) (row xs) ≡ count (j * wordBits) (row xs) + ones (getD xs j 0)

@@ -18,7 +18,7 @@ abbrev μ-loop : tie.MeasureT-loop
 μ-loop a at b start width j₀ j = width - j
 
 loop-holds : tie.Need-loop-holds Inv-loop μ-loop
-unfolding Set.meets Set.some
+unfolding Set.meets Set.exists
 loop-holds c = search needs
 
 returns : tie.Need-returns Inv-loop μ-loop
