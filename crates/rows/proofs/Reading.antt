@@ -19,15 +19,15 @@ use borrow.Author.Tests.{eq-eqb, ne-eqb}
 use Rattle.limits.specs.Book.{wordBits}
 use Rattle.sets.specs.Set.{Set, within, meets, same, exists, count}
 use Rattle.words.specs.Row.{bit, row, part, Words}
-use Rattle.words.proofs.Rows.{withinWord, meetsWord, existsWord, within-more, meets-more, same-more, exists-more, count-more}
+use Rattle.words.proofs.Rows.{row-part, withinWord, meetsWord, existsWord, within-more, meets-more, same-more, exists-more, count-more}
 use Rattle.words.proofs.Areas.{words-part}
 
--- bit b of word k is atom a
-pub member-bit : (at a k b : ℕ) (area : List ℕ) → k ≡ a / wordBits → b ≡ a % wordBits
-    → eqb (getD area (at + k) 0 / 2 ^ b % 2) 1 ≡ row (drop at area) a
-unfolding row bit
-member-bit at a k b area e f =
-    ap₂ (λ (x y : ℕ). eqb (x / 2 ^ y % 2) 1) (ap (λ (n : ℕ). getD area (at + n) 0) e ∙ sym (getD-drop at area (a / wordBits) 0)) f
+-- bit b of word k of a row is atom a
+pub member-bit : (at w a k b : ℕ) (area : List ℕ) → a < w * wordBits → k ≡ a / wordBits → b ≡ a % wordBits
+    → eqb (getD area (at + k) 0 / 2 ^ b % 2) 1 ≡ row (part at w area) a
+unfolding bit
+member-bit at w a k b area l e f =
+    ap₂ (λ (x y : ℕ). eqb (getD area (at + x) 0 / 2 ^ y % 2) 1) e f ∙ sym (row-part at w area a l)
 
 -- word j of a part of an area
 pub word-of : (at w : ℕ) (area : List ℕ) (j : ℕ) → j < w → getD (part at w area) j 0 ≡ getD area (at + j) 0

@@ -2,16 +2,16 @@
 use limits::Book;
 ghost use mathlib.Core.Path.{_≡_};
 ghost use mathlib.Core.Bool.{not};
-ghost use Prim.Native.Nat.{_+_, _*_, _/_, _^_, _<_, _≤_};
-ghost use lib.ListN.{length, drop};
+ghost use Prim.Native.Nat.{_+_, _*_, _^_, _<_, _≤_};
+ghost use lib.ListN.{length};
 ghost use Rattle.limits.specs.Book.{wordBits};
 ghost use Rattle.sets.specs.Set as Set;
 ghost use Rattle.words.specs.Row.{row, part};
 
 // Whether atom a is in the row.
-pub fn member(area: &[u64], at: usize, a: usize) -> bool
-    requires { ⌜ at + a / wordBits < length (now area) ⌝ }
-    ensures { λ r. ⌜ r ≡ row (drop at (now (area .entry))) a ⌝ }
+pub fn member(area: &[u64], at: usize, width: usize, a: usize) -> bool
+    requires { ⌜ (at + width ≤ length (now area)) × (a < width * wordBits) ⌝ }
+    ensures { λ r. ⌜ r ≡ row (part at width (now (area .entry))) a ⌝ }
 {
     (area[at + Book::word_of(a)] >> Book::bit_of(a)) % 2 == 1
 }

@@ -2,22 +2,15 @@
 -- Assumes nothing.
 use mathlib.Core.Path.{_≡_, sym, ap, subst, _∙_}
 use mathlib.Core.List.{List, [], _∷_, _++_, append-assoc}
-use Prim.Native.Nat.{ℕ, zero, suc, _+_, _-_, _*_, _/_, _%_, _≤_, _<_}
+use Prim.Native.Nat.{ℕ, zero, suc, _+_, _-_, _*_, _≤_}
 use native.Mathlib.Omega.{arith}
 use lib.Pow.{pow-pos}
 use lib.ListN.{length, take, drop, length-append, length-take, length-drop, take-append-drop}
-use lib.Seq.{getD-take, getD-drop, length-take-le, take-append-seam, take-append-le, drop-append-le, drop-at, drop-drop}
+use lib.Seq.{getD-drop, length-take-le, take-append-seam, take-append-le, drop-append-le, drop-at, drop-drop}
 use Rattle.sets.specs.Set.{Set, Same}
 use Rattle.limits.specs.Book.{wordBits}
-use Rattle.words.specs.Row.{bit, row, Words, pack, part, put}
+use Rattle.words.specs.Row.{row, Words, pack, part, put}
 use Rattle.words.proofs.Rows.{length-pack, row-pack}
-
--- the atoms of a part are those of the area from there on
-pub row-drop : (at w : ℕ) (area : List ℕ) → Same (w * wordBits) (row (part at w area)) (row (drop at area))
-unfolding row
-row-drop at w area a l =
-    let d : a / wordBits < w = omega arith in
-    ap (λ (x : ℕ). bit x (a % wordBits)) (getD-take w (drop at area) (a / wordBits) 0 d)
 
 -- a part that fits has its words
 pub length-part : (at w : ℕ) (area : List ℕ) → at + w ≤ length area → length (part at w area) ≡ w

@@ -8,19 +8,19 @@ use native.Mathlib.Nat.{zero-mul, zero-add, lt-suc-self, le-step}
 use native.Mathlib.Omega.{arith}
 use lib.Dec.{eqb, ltb}
 use borrow.Author.Tests.{ltb-true, ltb-false}
-use lib.Bits.{bitAnd}
+use lib.Bits.{bitAnd, bitOr}
 use lib.Count.{ones}
 use lib.Pow.{pow-pos}
 use lib.ListN.{length, getD, drop, replicate, List·getD-eq-default}
 use lib.Seq.{getD-take, getD-drop}
-use Rattle.sets.specs.Set.{Set, Same, one, exists, count, within, meets, same, emptySet}
+use Rattle.sets.specs.Set.{Set, Same, one, exists, count, within, meets, same, emptySet, union}
 use Rattle.limits.specs.Book.{wordBits}
 use Rattle.words.specs.Row.{bit, row, Words, binary, pack, part}
 use Rattle.sets.proofs.Logic.{either}
 use Rattle.sets.proofs.Tests.{exists-same, within-same, meets-same, same-same}
 use Rattle.sets.proofs.Counting.{count-same}
 use Rattle.sets.proofs.Ranges.{every-add, exists-add, count-add}
-use Rattle.words.proofs.Bits.{bit-zero, bit-binary, binary-lt, binary-bit, zero-none, and-meets, and-not-within, word-same, ones-count}
+use Rattle.words.proofs.Bits.{bit-zero, bit-or, bit-binary, binary-lt, binary-bit, zero-none, and-meets, and-not-within, word-same, ones-count}
 
 -- atom j * 64 + i is bit i of word j
 pub row-word : (ws : List ℕ) (j i : ℕ) → i < wordBits → row ws (j * wordBits + i) ≡ bit (getD ws j 0) i
@@ -226,3 +226,10 @@ exists-more j xs p = more (λ m f g. exists m f) _||_ existsWord (λ m k f g. ex
 pub count-more : (j : ℕ) (xs : List ℕ) → Words xs
     → count (suc j * wordBits) (row xs) ≡ count (j * wordBits) (row xs) + ones (getD xs j 0)
 count-more j xs p = more (λ m f g. count m f) _+_ (λ x y. ones x) (λ m k f g. count-add m k f) count-at j xs xs p p
+
+-- bits of a union: where each word is the or of two, the row is the union of their rows
+pub union-row : (xs ys zs : List ℕ) → ((j : ℕ) → getD zs j 0 ≡ bitOr (getD xs j 0) (getD ys j 0))
+    → (a : ℕ) → row zs a ≡ union (row xs) (row ys) a
+unfolding row
+union-row xs ys zs h a =
+    ap (λ (x : ℕ). bit x (a % wordBits)) (h (a / wordBits)) ∙ bit-or (getD xs (a / wordBits) 0) (getD ys (a / wordBits) 0) (a % wordBits)

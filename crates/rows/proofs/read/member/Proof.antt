@@ -6,8 +6,9 @@ use Rattle.rows.proofs.read.member.Tie as tie
 
 returns : tie.Need-returns
 returns c =
-    let a = c .before .before .before .before .args in
-    member-bit (a .at) (a .a) _ _ (a .area .now) (c .before .before .word-of .ensures) (c .bit-of .ensures)
+    let s = c .before .before .before .before in
+    let a = s .args in
+    member-bit (a .at) (a .width) (a .a) _ _ (a .area .now) (s .pre .1) (c .before .before .word-of .ensures) (c .bit-of .ensures)
 
 pub member-spec : {M : Type 1} → statement M
 member-spec =
