@@ -118,3 +118,7 @@ members-count (suc k) f i =
   where
     moved : (i j : ℕ) → i + (1 + j) ≡ suc i + j
     moved i j = omega arith
+
+-- a step of a loop to n stays within it and never goes back
+pub walk-range : (n i r : ℕ) (f : Set) → i ≤ n → r ≡ next (n - i) f i → (i ≤ r) × (r ≤ n)
+walk-range n i r f l e = let s = next-spec (n - i) f i in (omega (arith, s .2), omega (arith, s .3))
