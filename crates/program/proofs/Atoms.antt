@@ -10,12 +10,12 @@ use borrow.Author.Tests.{eqb-true, eq-eqb, leb-true, le-leb}
 use Rattle.sets.specs.Set.{Set, count, only, image}
 use Rattle.sets.proofs.Logic.{either, clash, not-true, iff, of-not, pick-true, pick-false}
 use Rattle.sets.proofs.Counting.{count-pos, count-find, count-same, count-tail, count-image, image-make, image-find}
-use Rattle.program.specs.Program.{Program, Sound, size, headAt, bodyAt}
+use Rattle.program.specs.Program.{Program, WellFormed, size, headAt, bodyAt}
 use Rattle.program.specs.System.{Regular, anyHead, c, h}
-use Rattle.program.specs.Standard.{ways, several, helper, home, full, bodied, allRow, anyRow, startSet, standard, Bears, Alone}
+use Rattle.program.specs.Standard.{ways, several, helper, home, hasBody, countedAtoms, allRow, anyRow, startSet, standard, Bears, Alone}
 use Rattle.program.proofs.Homes.{home-several, home-single, several-ways, several-alike, helper-past, names-below, home-below, helper-no-head, home-one, any-make, any-find, head-make, head-find, home-no-head}
 
-module _ (p : Program) (sound : Sound p) where
+module _ (p : Program) (formed : WellFormed p) where
   abbrev n : ℕ
   n = p .names
 
@@ -26,48 +26,48 @@ module _ (p : Program) (sound : Sound p) where
   atoms = helper p r
 
   -- the home of a rule with a body is counted, and no other atom
-  pub bodied-home : (j : ℕ) → j < r → bodied p (home p j) ≡ full p j
-  unfolding bodied
-  bodied-home j l =
-      iff (image r (home p) (full p) (home p j)) (full p j)
+  pub counted-home : (j : ℕ) → j < r → countedAtoms p (home p j) ≡ hasBody p j
+  unfolding countedAtoms
+  counted-home j l =
+      iff (image r (home p) (hasBody p) (home p j)) (hasBody p j)
       (λ e.
-      let q = image-find r (home p) (full p) (home p j) e in
-      subst (λ (k : ℕ). full p k ≡ true) (home-one p sound (q .0) j (q .1) l (q .2)) (q .3))
-      (λ e. image-make r (home p) (full p) j l e)
+      let q = image-find r (home p) (hasBody p) (home p j) e in
+      subst (λ (k : ℕ). hasBody p k ≡ true) (home-one p formed (q .0) j (q .1) l (q .2)) (q .3))
+      (λ e. image-make r (home p) (hasBody p) j l e)
 
-  pub start-home : (j : ℕ) → j < r → startSet p (home p j) ≡ not (full p j)
+  pub start-home : (j : ℕ) → j < r → startSet p (home p j) ≡ not (hasBody p j)
   unfolding startSet
   start-home j l =
-      iff (image r (home p) (λ k. not (full p k)) (home p j)) (not (full p j))
+      iff (image r (home p) (λ k. not (hasBody p k)) (home p j)) (not (hasBody p j))
       (λ e.
-      let q = image-find r (home p) (λ k. not (full p k)) (home p j) e in
-      subst (λ (k : ℕ). not (full p k) ≡ true) (home-one p sound (q .0) j (q .1) l (q .2)) (q .3))
-      (λ e. image-make r (home p) (λ k. not (full p k)) j l e)
+      let q = image-find r (home p) (λ k. not (hasBody p k)) (home p j) e in
+      subst (λ (k : ℕ). not (hasBody p k) ≡ true) (home-one p formed (q .0) j (q .1) l (q .2)) (q .3))
+      (λ e. image-make r (home p) (λ k. not (hasBody p k)) j l e)
 
   -- a rule's home bears its body
   pub bears : (j : ℕ) → j < r → Bears p j (home p j)
   unfolding allRow
   bears j l = record {
     row = λ e k.
-        pick-true (image r (home p) (λ j′. bodyAt p j′ k) (home p j)) (only (home p j) k) (bodied-home j l ∙ e)
+        pick-true (image r (home p) (λ j′. bodyAt p j′ k) (home p j)) (only (home p j) k) (counted-home j l ∙ e)
         ∙ iff (image r (home p) (λ j′. bodyAt p j′ k) (home p j)) (bodyAt p j k)
         (λ t.
         let q = image-find r (home p) (λ j′. bodyAt p j′ k) (home p j) t in
-        subst (λ (x : ℕ). bodyAt p x k ≡ true) (home-one p sound (q .0) j (q .1) l (q .2)) (q .3))
+        subst (λ (x : ℕ). bodyAt p x k ≡ true) (home-one p formed (q .0) j (q .1) l (q .2)) (q .3))
         (λ t. image-make r (home p) (λ j′. bodyAt p j′ k) j l t);
     fact = λ e k.
-        pick-false (image r (home p) (λ j′. bodyAt p j′ k) (home p j)) (only (home p j) k) (bodied-home j l ∙ e);
+        pick-false (image r (home p) (λ j′. bodyAt p j′ k) (home p j)) (only (home p j) k) (counted-home j l ∙ e);
     start = start-home j l;
   }
 
   -- an atom that is no rule's home is alone
   pub alone : (i : ℕ) → ((j : ℕ) → j < r → home p j ≡ i → ⊥) → Alone p i
-  unfolding allRow bodied startSet
+  unfolding allRow countedAtoms startSet
   alone i none = record {
     row = λ k.
         pick-false (image r (home p) (λ j. bodyAt p j k) i) (only i k)
-        (not-true (bodied p i) (λ t. let q = image-find r (home p) (full p) i t in none (q .0) (q .1) (q .2)));
-    start = not-true (startSet p i) (λ t. let q = image-find r (home p) (λ j. not (full p j)) i t in none (q .0) (q .1) (q .2));
+        (not-true (countedAtoms p i) (λ t. let q = image-find r (home p) (hasBody p) i t in none (q .0) (q .1) (q .2)));
+    start = not-true (startSet p i) (λ t. let q = image-find r (home p) (λ j. not (hasBody p j)) i t in none (q .0) (q .1) (q .2));
   }
 
   -- Document 01, "name with no rule": alone, and its "any" row is empty.
@@ -117,13 +117,13 @@ module _ (p : Program) (sound : Sound p) where
     subst (λ (i : ℕ). Bears p j i) (home-several p j s) (bears j l),
     λ k. not-true (anyRow p (helper p j) k) (λ t.
         let q = any-find p (helper p j) k t in
-        helper-no-head p sound j (q .0) (q .1) (sym (q .3))),
+        helper-no-head p formed j (q .0) (q .1) (sym (q .3))),
   )
 
   -- c is the number of rules with a body that is not empty
-  pub c-rules : c (standard p) ≡ count r (full p)
-  unfolding c bodied
-  c-rules = count-image atoms r (home p) (full p) (home-below p sound) (home-one p sound)
+  pub c-rules : c (standard p) ≡ count r (hasBody p)
+  unfolding c countedAtoms
+  c-rules = count-image atoms r (home p) (hasBody p) (home-below p formed) (home-one p formed)
 
   -- h is the number of names with several rules
   pub h-names : h (standard p) ≡ count n (λ a. leb 2 (ways p a))
@@ -133,7 +133,7 @@ module _ (p : Program) (sound : Sound p) where
       count-tail n atoms O (names-below p)
       (λ i a b. not-true (O i) (λ t.
       let q = head-find p i t in
-      let x : headAt p (q .0) < n = sound .heads (q .0) (q .1) in
+      let x : headAt p (q .0) < n = formed .heads (q .0) (q .1) in
       omega (arith, q .3)))
       ∙ count-same n O (λ a. leb 2 (ways p a))
       (λ a l. iff (O a) (leb 2 (ways p a))
@@ -149,12 +149,12 @@ module _ (p : Program) (sound : Sound p) where
   pub regular : Regular (standard p)
   regular = record {
     kept = λ i l d k b. unfold allRow in (pick-false (image r (home p) (λ j. bodyAt p j k) i) (only i k) d);
-    heads = λ i l o. not-true (bodied p i) (λ t.
-        let q = image-find r (home p) (full p) i (unfold bodied in t) in
-        clash o (subst (λ (x : ℕ). anyHead (standard p) x ≡ false) (q .2) (home-no-head p sound (q .0) (q .1))));
+    heads = λ i l o. not-true (countedAtoms p i) (λ t.
+        let q = image-find r (home p) (hasBody p) i (unfold countedAtoms in t) in
+        clash o (subst (λ (x : ℕ). anyHead (standard p) x ≡ false) (q .2) (home-no-head p formed (q .0) (q .1))));
     starts = λ i l s.
-        let q = image-find r (home p) (λ j. not (full p j)) i (unfold startSet in s) in (
-          subst (λ (x : ℕ). bodied p x ≡ false) (q .2) (bodied-home (q .0) (q .1) ∙ of-not (full p (q .0)) (q .3)),
-          subst (λ (x : ℕ). anyHead (standard p) x ≡ false) (q .2) (home-no-head p sound (q .0) (q .1)),
+        let q = image-find r (home p) (λ j. not (hasBody p j)) i (unfold startSet in s) in (
+          subst (λ (x : ℕ). countedAtoms p x ≡ false) (q .2) (counted-home (q .0) (q .1) ∙ of-not (hasBody p (q .0)) (q .3)),
+          subst (λ (x : ℕ). anyHead (standard p) x ≡ false) (q .2) (home-no-head p formed (q .0) (q .1)),
         );
   }

@@ -10,7 +10,7 @@ use Rattle.sets.specs.Set.{count}
 use Rattle.sets.proofs.Logic.{either, clash, not-true, and-left, and-right, and-make, pick-true, pick-false}
 use Rattle.sets.proofs.Tests.{exists-make, exists-find}
 use Rattle.sets.proofs.Counting.{rank-less, rank-one, count-two}
-use Rattle.program.specs.Program.{Program, Sound, size, headAt}
+use Rattle.program.specs.Program.{Program, WellFormed, size, headAt}
 use Rattle.program.specs.System.{anyHead}
 use Rattle.program.specs.Standard.{ways, several, helper, home, anyRow, standard}
 
@@ -70,10 +70,10 @@ module _ (p : Program) where
   pub names-below : n ≤ atoms
   names-below = helper-past r
 
-  module _ (sound : Sound p) where
+  module _ (formed : WellFormed p) where
     pub home-below : (j : ℕ) → j < r → home p j < atoms
     home-below j l =
-        let a : headAt p j < n = sound .heads j l in
+        let a : headAt p j < n = formed .heads j l in
         let b : n ≤ atoms = names-below in
         either (several p j) (λ s. subst (λ (i : ℕ). i < atoms) (sym (home-several j s)) (helper-below j l s))
         (λ s. subst (λ (i : ℕ). i < atoms) (sym (home-single j s)) (omega arith))
@@ -81,7 +81,7 @@ module _ (p : Program) where
     -- a helper is no head
     pub helper-no-head : (j k : ℕ) → k < r → helper p j ≡ headAt p k → ⊥
     helper-no-head j k l e =
-        let a : headAt p k < n = sound .heads k l in
+        let a : headAt p k < n = formed .heads k l in
         let b : n ≤ helper p j = helper-past j in
         omega arith
 
@@ -134,7 +134,7 @@ module _ (p : Program) where
       let f = any-find i (q .0) (q .2) in
       (f .0, f .1, f .2, f .3)
 
-  pub home-no-head : Sound p → (j : ℕ) → j < r → anyHead (standard p) (home p j) ≡ false
-  home-no-head sound j l =
+  pub home-no-head : WellFormed p → (j : ℕ) → j < r → anyHead (standard p) (home p j) ≡ false
+  home-no-head formed j l =
       not-true (anyHead (standard p) (home p j))
-      (λ t. let q = head-find (home p j) t in home-not-several sound j (q .0) l (q .1) (q .2) (sym (q .3)))
+      (λ t. let q = head-find (home p j) t in home-not-several formed j (q .0) l (q .1) (q .2) (sym (q .3)))

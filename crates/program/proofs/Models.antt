@@ -12,9 +12,9 @@ use Rattle.sets.specs.Steps.{Closed, Least}
 use Rattle.sets.proofs.Logic.{either, clash, iff, and-left, and-right, and-make, not-of-false, pick-true, pick-false}
 use Rattle.sets.proofs.Tests.{exists-none, within-at, within-make, meets-make, meets-find, within-same, only-within}
 use Rattle.sets.proofs.Counting.{image-make, image-find}
-use Rattle.program.specs.Program.{Program, Sound, Model, InEveryModel, size, headAt, bodyAt, plainHeld}
+use Rattle.program.specs.Program.{Program, WellFormed, Model, InEveryModel, size, headAt, bodyAt, plainHeld}
 use Rattle.program.specs.System.{System, anyHead, allStep, round, folded, unfolded, heldBy}
-use Rattle.program.specs.Standard.{several, helper, home, full, bodied, allRow, anyRow, startSet, standard}
+use Rattle.program.specs.Standard.{several, helper, home, hasBody, countedAtoms, allRow, anyRow, startSet, standard}
 use Rattle.program.proofs.Homes.{home-several, home-single, helper-past, helper-below, helper-one, names-below, home-below, any-make, any-find, head-make, home-no-head}
 use Rattle.program.proofs.Atoms.{start-home, bears, regular}
 use Rattle.program.proofs.Systems.{held-alike, held-least}
@@ -29,7 +29,7 @@ round-other : (s : System) (v : Set) (i : ℕ) → anyHead s i ≡ false → rou
 unfolding round allStep
 round-other s v i e = pick-false (meets (s .atoms) (s .any i) v) (allStep (s .atoms) (s .all) v i) e
 
-module _ (p : Program) (sound : Sound p) where
+module _ (p : Program) (formed : WellFormed p) where
   abbrev n : ℕ
   n = p .names
 
@@ -65,17 +65,17 @@ module _ (p : Program) (sound : Sound p) where
   spread-home M model j l w =
       either (several p j)
       (λ s. ap (spread M) (home-several p j s) ∙ spread-helper M j l s ∙ within-make n (bodyAt p j) M w)
-      (λ s. ap (spread M) (home-single p j s) ∙ spread-name M (headAt p j) (sound .heads j l) ∙ model j l w)
+      (λ s. ap (spread M) (home-single p j s) ∙ spread-name M (headAt p j) (formed .heads j l) ∙ model j l w)
 
   -- the spread of a model has the start set
   spread-start : (M : Set) → Model p M → Within atoms (startSet p) (spread M)
   unfolding startSet
   spread-start M model i l e =
-      let q = image-find r (home p) (λ j. not (full p j)) i e in
+      let q = image-find r (home p) (λ j. not (hasBody p j)) i e in
       let j : ℕ = q .0 in
       subst (λ (x : ℕ). spread M x ≡ true) (q .2)
       (spread-home M model j (q .1) (λ k b t.
-      either (full p j) (λ f. clash (q .3) (ap not f)) (λ f. clash t (exists-none n (bodyAt p j) (unfold full in f) k b))))
+      either (hasBody p j) (λ f. clash (q .3) (ap not f)) (λ f. clash t (exists-none n (bodyAt p j) (unfold hasBody in f) k b))))
 
   -- and is closed under a round: at an "any" head, at the home of a rule with a body, at an atom that is alone
   closed-head : (M : Set) → Model p M → (i : ℕ) → meets atoms (anyRow p i) (spread M) ≡ true → spread M i ≡ true
@@ -87,17 +87,17 @@ module _ (p : Program) (sound : Sound p) where
       sym (spread-helper M j (q .1) (q .2)) ∙ ap (spread M) (q .4) ∙ f .3
       in
       subst (λ (x : ℕ). spread M x ≡ true) (q .3)
-      (spread-name M (headAt p j) (sound .heads j (q .1)) ∙ model j (q .1) (within-at n (bodyAt p j) M body))
+      (spread-name M (headAt p j) (formed .heads j (q .1)) ∙ model j (q .1) (within-at n (bodyAt p j) M body))
 
-  closed-home : (M : Set) → Model p M → (i : ℕ) → bodied p i ≡ true → within atoms (allRow p i) (spread M) ≡ true → spread M i ≡ true
-  unfolding bodied
+  closed-home : (M : Set) → Model p M → (i : ℕ) → countedAtoms p i ≡ true → within atoms (allRow p i) (spread M) ≡ true → spread M i ≡ true
+  unfolding countedAtoms
   closed-home M model i b e =
-      let q = image-find r (home p) (full p) i b in
+      let q = image-find r (home p) (hasBody p) i b in
       let j : ℕ = q .0 in
       let more : n ≤ atoms = names-below p in
       subst (λ (x : ℕ). spread M x ≡ true) (q .2)
       (spread-home M model j (q .1) (λ k l t.
-      let at : allRow p i k ≡ true = ap (λ (x : ℕ). allRow p x k) (sym (q .2)) ∙ bears p sound j (q .1) .row (q .3) k ∙ t in
+      let at : allRow p i k ≡ true = ap (λ (x : ℕ). allRow p x k) (sym (q .2)) ∙ bears p formed j (q .1) .row (q .3) k ∙ t in
       sym (spread-name M k l) ∙ within-at atoms (allRow p i) (spread M) e k (omega arith) at))
 
   spread-closed : (M : Set) → Model p M → Closed atoms (round (standard p)) (spread M)
@@ -106,14 +106,14 @@ module _ (p : Program) (sound : Sound p) where
       either (anyHead s i) (λ o. closed-head M model i ((sym (round-head s (spread M) i o) ∙ e)))
       (λ o.
       let w : within atoms (allRow p i) (spread M) ≡ true = (sym (round-other s (spread M) i o) ∙ e) in
-      either (bodied p i) (λ b. closed-home M model i b w)
+      either (countedAtoms p i) (λ b. closed-home M model i b w)
       (λ b.
-      sym (within-same atoms (allRow p i) (only i) (spread M) (spread M) ((regular p sound .kept i l b)) (λ k m. refl)
+      sym (within-same atoms (allRow p i) (only i) (spread M) (spread M) ((regular p formed .kept i l b)) (λ k m. refl)
       ∙ only-within atoms i (spread M) l) ∙ w))
 
   least : Least atoms (round (standard p)) (startSet p) (heldBy (standard p))
   unfolding unfolded
-  least = held-least (standard p) (regular p sound) 0
+  least = held-least (standard p) (regular p formed) 0
 
   -- the names held lie in every model
   pub held-within : (M : Set) → Model p M → Within n (heldBy (standard p)) M
@@ -126,19 +126,19 @@ module _ (p : Program) (sound : Sound p) where
   held-home j l w =
       let s : System = standard p in
       let L : Set = heldBy s in
-      either (full p j)
+      either (hasBody p j)
       (λ f.
-      least .closed (home p j) (home-below p sound j l)
-      (round-other s L (home p j) (home-no-head p sound j l) ∙ (within-make atoms (allRow p (home p j)) L
-      (λ k b t. let body : bodyAt p j k ≡ true = sym (bears p sound j l .row f k) ∙ t in w k (sound .bodies j k l body) body))))
-      (λ f. least .contains (home p j) (home-below p sound j l) (start-home p sound j l ∙ not-of-false (full p j) f))
+      least .closed (home p j) (home-below p formed j l)
+      (round-other s L (home p j) (home-no-head p formed j l) ∙ (within-make atoms (allRow p (home p j)) L
+      (λ k b t. let body : bodyAt p j k ≡ true = sym (bears p formed j l .row f k) ∙ t in w k (formed .bodies j k l body) body))))
+      (λ f. least .contains (home p j) (home-below p formed j l) (start-home p formed j l ∙ not-of-false (hasBody p j) f))
 
   pub held-model : Model p (heldBy (standard p))
   held-model j l w =
       let s : System = standard p in
       let L : Set = heldBy s in
       let more : n ≤ atoms = names-below p in
-      let name : headAt p j < n = sound .heads j l in
+      let name : headAt p j < n = formed .heads j l in
       either (several p j)
       (λ m.
       let held : L (helper p j) ≡ true = ap L (sym (home-several p j m)) ∙ held-home j l w in
@@ -151,7 +151,7 @@ module _ (p : Program) (sound : Sound p) where
   held-exactly k a l =
       let more : n ≤ atoms = names-below p in
       let same : heldBy (folded k (standard p)) a ≡ heldBy (standard p) a =
-      held-alike (standard p) (regular p sound) k a ((omega arith))
+      held-alike (standard p) (regular p formed) k a ((omega arith))
       in (
         λ e M model. held-within M model a l (sym same ∙ e),
         λ every. same ∙ every (heldBy (standard p)) held-model,
@@ -161,5 +161,5 @@ module _ (p : Program) (sound : Sound p) where
   pub held-plain : (k : ℕ) → Same n (heldBy (folded k (standard p))) (plainHeld p)
   held-plain k a l =
       let here = held-exactly k a l in
-      let plain = plain-held p sound a l in
+      let plain = plain-held p formed a l in
       iff (heldBy (folded k (standard p)) a) (plainHeld p a) (λ e. plain .1 (here .0 e)) (λ e. here .1 (plain .0 e))

@@ -13,7 +13,7 @@ use Rattle.sets.proofs.Logic.{clash, and-left, and-right, and-make, or-right}
 use Rattle.sets.proofs.Tests.{exists-make, exists-find, within-at, within-make}
 use Rattle.sets.proofs.Counting.{count-le}
 use Rattle.sets.proofs.Rounds.{reached-least, rounds-join}
-use Rattle.program.specs.Program.{Program, Sound, Model, InEveryModel, size, headAt, bodyAt, consequence, plainRounds, plainHeld}
+use Rattle.program.specs.Program.{Program, WellFormed, Model, InEveryModel, size, headAt, bodyAt, consequence, plainRounds, plainHeld}
 
 module _ (p : Program) where
   abbrev n : ℕ
@@ -42,7 +42,7 @@ module _ (p : Program) where
       subst (λ (a : ℕ). consequence p g a ≡ true) (r .2) (follows g (r .0) (r .1) (λ k m q. h k m (r .3 k m q)))
 
   -- a set is a model where it is closed under immediate consequence
-  pub closed-model : Sound p → (M : Set) → Closed n (consequence p) M → Model p M
+  pub closed-model : WellFormed p → (M : Set) → Closed n (consequence p) M → Model p M
   closed-model s M c j l w = c (headAt p j) (s .heads j l) (follows M j l w)
 
   pub model-closed : (M : Set) → Model p M → Closed n (consequence p) M
@@ -55,7 +55,7 @@ module _ (p : Program) where
   plain-least = reached-least n (consequence p) emptySet consequence-mono (λ i l e. clash e refl)
 
   -- what the plain route reaches is a model
-  pub plain-model : Sound p → Model p (plainHeld p)
+  pub plain-model : WellFormed p → Model p (plainHeld p)
   plain-model s = closed-model s (plainHeld p) (plain-least .closed)
 
   -- and lies in every model
@@ -63,7 +63,7 @@ module _ (p : Program) where
   plain-within M h = plain-least .least M (λ i l e. clash e refl) (model-closed M h)
 
   -- so it holds a name exactly where every model has it
-  pub plain-held : Sound p → (a : ℕ) → a < n → (plainHeld p a ≡ true) ↔ InEveryModel p a
+  pub plain-held : WellFormed p → (a : ℕ) → a < n → (plainHeld p a ≡ true) ↔ InEveryModel p a
   plain-held s a l = (λ e M h. plain-within M h a l e, λ every. every (plainHeld p) (plain-model s))
 
   -- in at most n + 1 rounds

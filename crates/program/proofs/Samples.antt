@@ -6,14 +6,14 @@ use Rattle.sets.specs.Set.{pick, every, exists, count, within, meets, same, ima
 use Rattle.sets.specs.Steps.{after, roundsIn, rounds, reached}
 use Rattle.program.specs.Program.{consequence, plainHeld}
 use Rattle.program.specs.System.{anyHead, allStep, round, unfoldOnce, unfolded, roundsOf, heldBy, c, h}
-use Rattle.program.specs.Standard.{ways, several, helper, home, full, bodied, allRow, anyRow, startSet}
+use Rattle.program.specs.Standard.{ways, several, helper, home, hasBody, countedAtoms, allRow, anyRow, startSet}
 use Rattle.program.specs.Samples.{listed, upTo, runAgrees, runsAgree, agrees, allAgree}
 use Rattle.program.specs.Table.{samples, foldedRows}
 
 pub samples-agree : allAgree samples ≡ true
-unfolding pick every exists count within meets same image after roundsIn rounds reached consequence plainHeld anyHead allStep round unfoldOnce unfolded roundsOf heldBy c h ways several helper home full bodied allRow anyRow startSet listed upTo runAgrees runsAgree agrees allAgree
+unfolding pick every exists count within meets same image after roundsIn rounds reached consequence plainHeld anyHead allStep round unfoldOnce unfolded roundsOf heldBy c h ways several helper home hasBody countedAtoms allRow anyRow startSet listed upTo runAgrees runsAgree agrees allAgree
 samples-agree = refl
 
 pub folded-rows : foldedRows ≡ true
-unfolding pick every exists count within meets same image anyHead unfoldOnce unfolded ways several helper home full bodied allRow listed foldedRows
+unfolding pick every exists count within meets same image anyHead unfoldOnce unfolded ways several helper home hasBody countedAtoms allRow listed foldedRows
 folded-rows = refl

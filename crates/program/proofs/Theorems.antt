@@ -3,7 +3,7 @@
 use mathlib.Core.Path.{ap}
 use Prim.Native.Nat.{ℕ}
 use Rattle.sets.specs.Set.{Set}
-use Rattle.program.specs.Program.{Program, Sound}
+use Rattle.program.specs.Program.{Program, WellFormed}
 use Rattle.program.specs.System.{System, Regular}
 use Rattle.program.specs.Standard.{standard}
 use Rattle.program.specs.Claims.{PlainRoute, Composes, AfterFolds, Kinds, LeastModel}
@@ -13,8 +13,8 @@ use Rattle.program.proofs.Systems.{held-alike, start-kept, rounds-are-f
 use Rattle.program.proofs.Atoms.{undefined-name, single-name, several-name, helper-atom, c-rules, h-names, regular}
 use Rattle.program.proofs.Models.{held-exactly, held-plain}
 
-pub plain-route : (p : Program) → Sound p → PlainRoute p
-plain-route p sound = record { model = plain-model p sound; least = plain-within p; bound = plain-bound p }
+pub plain-route : (p : Program) → WellFormed p → PlainRoute p
+plain-route p formed = record { model = plain-model p formed; least = plain-within p; bound = plain-bound p }
 
 pub composes : (m : ℕ) (rows : ℕ → Set) → Composes m rows
 composes m rows = record {
@@ -32,22 +32,22 @@ after-folds s reg k = record {
   enough = rounds-enough s reg k;
 }
 
-pub kinds : (p : Program) → Sound p → Kinds p
-kinds p sound = record {
-  undefined = undefined-name p sound;
-  single = single-name p sound;
-  several-rules = several-name p sound;
-  helpers = helper-atom p sound;
-  c-rules = c-rules p sound;
-  h-names = h-names p sound;
+pub kinds : (p : Program) → WellFormed p → Kinds p
+kinds p formed = record {
+  undefined = undefined-name p formed;
+  single = single-name p formed;
+  several-rules = several-name p formed;
+  helpers = helper-atom p formed;
+  c-rules = c-rules p formed;
+  h-names = h-names p formed;
 }
 
-pub standard-regular : (p : Program) → Sound p → Regular (standard p)
+pub standard-regular : (p : Program) → WellFormed p → Regular (standard p)
 standard-regular = regular
 
-pub least-model : (p : Program) → Sound p → (k : ℕ) → LeastModel p k
-least-model p sound k = record {
-  held = held-exactly p sound k;
-  plain = held-plain p sound k;
-  rounds = after-folds (standard p) (regular p sound) k;
+pub least-model : (p : Program) → WellFormed p → (k : ℕ) → LeastModel p k
+least-model p formed k = record {
+  held = held-exactly p formed k;
+  plain = held-plain p formed k;
+  rounds = after-folds (standard p) (regular p formed) k;
 }

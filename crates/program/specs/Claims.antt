@@ -9,7 +9,7 @@ use Rattle.sets.specs.Set.{Set, Within, Same, count}
 use Rattle.sets.specs.Steps.{First, Least, after}
 use Rattle.program.specs.Program.{Program, Model, InEveryModel, size, headAt, plainHeld, plainRounds}
 use Rattle.program.specs.System.{System, allStep, round, unfoldOnce, unfolded, folded, roundsOf, heldBy, c, h}
-use Rattle.program.specs.Standard.{ways, several, helper, full, anyRow, standard, Bears, Alone}
+use Rattle.program.specs.Standard.{ways, several, helper, hasBody, anyRow, standard, Bears, Alone}
 
 -- The plain route reaches a model that lies in every model, in at most n + 1 rounds.
 pub record PlainRoute (p : Program) : Type 0 where
@@ -38,7 +38,7 @@ pub record Kinds (p : Program) : Type 0 where
   pub several-rules : (a : ℕ) → a < p .names → 2 ≤ ways p a
       → Alone p a × ((k : ℕ) → (anyRow p a k ≡ true) ↔ ((j : ℕ) × (j < size p) × (headAt p j ≡ a) × (helper p j ≡ k)))
   pub helpers : (j : ℕ) → j < size p → several p j ≡ true → Bears p j (helper p j) × ((k : ℕ) → anyRow p (helper p j) k ≡ false)
-  pub c-rules : c (standard p) ≡ count (size p) (full p)
+  pub c-rules : c (standard p) ≡ count (size p) (hasBody p)
   pub h-names : h (standard p) ≡ count (p .names) (λ a. leb 2 (ways p a))
 
 -- Demand 3 for programs, after k folds: a name is held exactly where every model has it, so alike for all k and by the plain route;

@@ -36,8 +36,8 @@ headAt p j = getD (p .rules) j blank .head
 abbrev pub bodyAt : Program → ℕ → Set
 bodyAt p j = getD (p .rules) j blank .body
 
--- heads and bodies are of names
-pub record Sound (p : Program) : Type 0 where
+-- heads and body members are names of the program: what document 01 asks of tables that are not ill formed
+pub record WellFormed (p : Program) : Type 0 where
   pub heads : (j : ℕ) → j < size p → headAt p j < p .names
   pub bodies : (j a : ℕ) → j < size p → bodyAt p j a ≡ true → a < p .names
 

@@ -26,16 +26,16 @@ unfoldable pub home : Program → ℕ → ℕ
 home p j = pick (several p j) (helper p j) (headAt p j)
 
 -- rule j has a body that is not empty
-unfoldable pub full : Program → Set
-full p j = exists (p .names) (bodyAt p j)
+unfoldable pub hasBody : Program → Set
+hasBody p j = exists (p .names) (bodyAt p j)
 
 -- the atoms at which a rule with a body stands: those that c counts
-unfoldable pub bodied : Program → Set
-bodied p = image (size p) (home p) (full p)
+unfoldable pub countedAtoms : Program → Set
+countedAtoms p = image (size p) (home p) (hasBody p)
 
 -- the "all" row: the body that stands there, else the atom alone
 unfoldable pub allRow : Program → ℕ → Set
-allRow p i k = pick (bodied p i) (image (size p) (home p) (λ j. bodyAt p j k) i) (only i k)
+allRow p i k = pick (countedAtoms p i) (image (size p) (home p) (λ j. bodyAt p j k) i) (only i k)
 
 -- the "any" row of a name: its helpers
 unfoldable pub anyRow : Program → ℕ → Set
@@ -43,7 +43,7 @@ anyRow p i k = exists (size p) (λ j. several p j && (eqb (headAt p j) i && eqb 
 
 -- the start set: the homes of rules with an empty body
 unfoldable pub startSet : Program → Set
-startSet p = image (size p) (home p) (λ j. not (full p j))
+startSet p = image (size p) (home p) (λ j. not (hasBody p j))
 
 -- the rows, the start set and the counted atoms of a program
 abbrev pub standard : Program → System
@@ -53,14 +53,14 @@ standard p =
       all = allRow p;
       any = anyRow p;
       start = startSet p;
-      counted = bodied p;
+      counted = countedAtoms p;
     }
 
 -- Atom i bears the body of rule j: its row is that body; if the body is empty, itself alone, and it is in the start set.
 pub record Bears (p : Program) (j i : ℕ) : Type 0 where
-  pub row : full p j ≡ true → (k : ℕ) → allRow p i k ≡ bodyAt p j k
-  pub fact : full p j ≡ false → (k : ℕ) → allRow p i k ≡ only i k
-  pub start : startSet p i ≡ not (full p j)
+  pub row : hasBody p j ≡ true → (k : ℕ) → allRow p i k ≡ bodyAt p j k
+  pub fact : hasBody p j ≡ false → (k : ℕ) → allRow p i k ≡ only i k
+  pub start : startSet p i ≡ not (hasBody p j)
 
 -- Atom i has itself alone as its row and is not in the start set.
 pub record Alone (p : Program) (i : ℕ) : Type 0 where

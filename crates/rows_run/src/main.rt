@@ -10,6 +10,14 @@ fn number(n: u64) {
     io::write_all(STDOUT_FILENO, b"\n");
 }
 
+fn byte(n: u8) {
+    number(n as u64);
+}
+
+fn head(n: u16) {
+    number(n as u64);
+}
+
 fn answer(yes: bool) {
     if yes {
         io::write_all(STDOUT_FILENO, b"yes\n");
@@ -86,6 +94,22 @@ fn cleared() {
     number(area[4]);
 }
 
+fn cleared_bytes() {
+    let mut area = [1u8, 2, 3, 4];
+    rows::clear::clear_tail8(&mut area, 1, 3);
+    byte(area[0]);
+    byte(area[2]);
+    byte(area[3]);
+}
+
+fn cleared_heads() {
+    let mut area = [1u16, 2, 3, 4];
+    rows::clear::clear_tail16(&mut area, 2, 4);
+    head(area[1]);
+    head(area[2]);
+    head(area[3]);
+}
+
 fn main() {
     inserted();
     united();
@@ -93,4 +117,6 @@ fn main() {
     compared();
     counted();
     cleared();
+    cleared_bytes();
+    cleared_heads();
 }

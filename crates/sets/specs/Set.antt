@@ -71,7 +71,7 @@ union f g i = f i || g i
 unfoldable pub image : ℕ → (ℕ → ℕ) → Set → Set
 image r g f i = exists r (λ j. eqb (g j) i && f j)
 
--- the first member of f at or past i within k more numbers, else i + k
+-- the first member of f among the k numbers from i on, else i + k
 unfoldable pub next : ℕ → Set → ℕ → ℕ
 next zero f i = i
 next (suc k) f i = pick (f i) i (next k f (suc i))
