@@ -1,0 +1,20 @@
+-- What is claimed of lines and their forms. The theorems are in proofs/Theorems.antt.
+-- Assumes nothing.
+use mathlib.Core.Path.{_≡_}
+use mathlib.Core.Logic.{_↔_}
+use mathlib.Core.List.{List}
+use Prim.Native.Nat.{ℕ}
+use lib.ListN.{length, drop}
+use Rattle.grammar.specs.Bytes.{Bytes}
+use Rattle.grammar.specs.Grammar.{Form, Says, Text, mark, Marked, Ended}
+use Rattle.grammar.specs.Lines.{lines, formOf}
+
+-- the computed form of a line is the one form that it is of
+pub record Classified (fold : ℕ → ℕ) : Type 0 where
+  pub forms : (s : Bytes) (f : Form) → Says fold s f ↔ (formOf fold s ≡ f)
+
+-- a text that is marked and ended has exactly the lines that cutting it gives
+pub record Cut : Type 0 where
+  pub only : (t : Bytes) (ls : List Bytes) → Text t ls → ls ≡ lines (drop (length mark) t)
+  pub whole : (t : Bytes) → Marked t → Ended t → Text t (lines (drop (length mark) t))
+  pub marked : (t : Bytes) (ls : List Bytes) → Text t ls → Marked t × Ended t
