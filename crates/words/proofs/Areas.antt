@@ -70,10 +70,10 @@ words-take (suc w) [] h k = pow-pos wordBits
 words-take (suc w) (x ∷ ws) h zero = h zero
 words-take (suc w) (x ∷ ws) h (suc k) = words-take w ws (λ i. h (suc i)) k
 
-words-drop : (at : ℕ) (ws : List ℕ) → Words ws → Words (drop at ws)
+pub words-drop : (at : ℕ) (ws : List ℕ) → Words ws → Words (drop at ws)
 words-drop at ws h k = rw getD-drop (h (at + k))
 
-words-append : (xs ys : List ℕ) → Words xs → Words ys → Words (xs ++ ys)
+pub words-append : (xs ys : List ℕ) → Words xs → Words ys → Words (xs ++ ys)
 words-append [] ys p q k = q k
 words-append (x ∷ xs) ys p q zero = p zero
 words-append (x ∷ xs) ys p q (suc k) = words-append xs ys (λ i. p (suc i)) q k

@@ -1,0 +1,125 @@
+-- The lent areas: what a book's tables are in them.
+-- Assumes nothing.
+use mathlib.Core.Bool.{Bool, not, _&&_, _||_}
+use mathlib.Core.List.{List, [], _∷_, _++_, map}
+use Prim.Native.Nat.{ℕ, zero, suc, _-_, _*_}
+use lib.Dec.{eqb, leb, ltb}
+use lib.ListN.{length, getD, drop, replicate}
+use Rattle.limits.specs.Book.{names, nameBytes, rules, bodyWords, nameArea, bodyArea}
+use Rattle.sets.specs.Set.{pick}
+use Rattle.words.specs.Row.{row, part, pack}
+use Rattle.program.specs.Program.{Rule}
+use Rattle.grammar.specs.Bytes.{Bytes}
+use Rattle.grammar.specs.Grammar.{Clause}
+use Rattle.grammar.specs.Lines.{run}
+use Rattle.tables.specs.Numbering.{namesOf, numbered}
+use Rattle.tables.specs.Reading.{Reading, read, refused, reading}
+
+-- a name area, its heads and its bodies
+pub record Areas : Type 0 where
+  pub spellings : Bytes
+  pub heads : List ℕ
+  pub bodies : List ℕ
+
+-- the used part, zeros to the stated size, and what lies past that as it was
+unfoldable pub filled : ℕ → List ℕ → List ℕ → List ℕ
+filled size xs old = xs ++ (replicate (size - length xs) 0 ++ drop size old)
+
+-- a name's row: "each name padded with zeros"
+unfoldable pub padded : Bytes → List ℕ
+padded n = n ++ replicate (nameBytes - length n) 0
+
+unfoldable pub nameRows : List Bytes → List ℕ
+nameRows [] = []
+nameRows (n ∷ ns) = padded n ++ nameRows ns
+
+unfoldable pub headRows : List (Rule ℕ) → List ℕ
+headRows [] = []
+headRows (r ∷ rs) = r .head ∷ headRows rs
+
+unfoldable pub bodyRows : List (Rule ℕ) → List ℕ
+bodyRows [] = []
+bodyRows (r ∷ rs) = pack bodyWords (r .body) ++ bodyRows rs
+
+-- areas filled with names and rules
+unfoldable pub filledWith : List Bytes → List (Rule ℕ) → Areas → Areas
+filledWith ns rs old =
+    record {
+      spellings = filled nameArea (nameRows ns) (old .spellings);
+      heads = filled rules (headRows rs) (old .heads);
+      bodies = filled bodyArea (bodyRows rs) (old .bodies);
+    }
+
+-- the tables of a book
+unfoldable pub tablesOf : List Clause → Areas → Areas
+tablesOf cs old = filledWith (namesOf cs) (map (numbered (namesOf cs)) cs) old
+
+-- an area shorter than its stated size
+unfoldable pub short : Areas → Bool
+short o = ltb (length (o .spellings)) nameArea || (ltb (length (o .heads)) rules || ltb (length (o .bodies)) bodyArea)
+
+-- what the reader returns
+pub record Answer : Type 0 where
+  pub number : ℕ
+  pub line : ℕ
+  pub names : ℕ
+  pub rules : ℕ
+
+pub record Outcome : Type 0 where
+  pub answer : Answer
+  pub areas : Areas
+
+-- a refusal: with a line, names and rules are zero; else all is as it was
+unfoldable pub refusal : ℕ → ℕ → Areas → Outcome
+refusal k line old =
+    record {
+      answer = record { number = k; line = line; names = 0; rules = 0 };
+      areas = pick (eqb line 0) old (filledWith [] [] old);
+    }
+
+-- what a reading answers and leaves
+unfoldable pub outcome : Reading → Areas → Outcome
+outcome (refused k line) old = refusal k line old
+outcome (read cs) old =
+    record {
+      answer = record { number = 0; line = 0; names = length (namesOf cs); rules = length cs };
+      areas = tablesOf cs old;
+    }
+
+-- the reader: areas too short come first
+unfoldable pub readCall : (ℕ → ℕ) → Bytes → Areas → Outcome
+readCall fold t old = pick (short old) (refusal 1 0 old) (outcome (reading fold t) old)
+
+-- a byte that is not zero
+unfoldable pub nonzero : ℕ → Bool
+nonzero b = not (eqb b 0)
+
+-- name a of a name area, without padding: up to its first zero byte, or all 32
+unfoldable pub nameAt : Bytes → ℕ → Bytes
+nameAt area a = run nonzero (part (a * nameBytes) nameBytes area)
+
+-- the look-up: the empty part for a number not below the count, a count over 128 or an area under 4,096 bytes
+unfoldable pub lookUp : Bytes → ℕ → ℕ → Bytes
+lookUp area n a = pick (ltb a n && (leb n names && leb nameArea (length area))) (nameAt area a) []
+
+-- the k names from a on
+unfoldable pub namesFrom : Bytes → ℕ → ℕ → List Bytes
+namesFrom area zero a = []
+namesFrom area (suc k) a = nameAt area a ∷ namesFrom area k (suc a)
+
+-- the first n names of an area
+abbrev pub namesIn : Bytes → ℕ → List Bytes
+namesIn area n = namesFrom area n 0
+
+-- rule j of the tables
+unfoldable pub ruleAt : Areas → ℕ → Rule ℕ
+ruleAt o j = record { head = getD (o .heads) j 0; body = row (part (j * bodyWords) bodyWords (o .bodies)) }
+
+-- the k rules from j on
+unfoldable pub rulesFrom : Areas → ℕ → ℕ → List (Rule ℕ)
+rulesFrom o zero j = []
+rulesFrom o (suc k) j = ruleAt o j ∷ rulesFrom o k (suc j)
+
+-- the first m rules of the tables
+abbrev pub rulesIn : Areas → ℕ → List (Rule ℕ)
+rulesIn o m = rulesFrom o m 0

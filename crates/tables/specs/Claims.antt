@@ -1,0 +1,62 @@
+-- What is claimed of reading and numbering. The theorems are in proofs/Theorems.antt.
+-- Assumes nothing.
+use mathlib.Core.Path.{_≡_}
+use mathlib.Core.Logic.{_⊎_, _↔_}
+use mathlib.Core.Bool.{true, false}
+use mathlib.Core.List.{List, [], _∷_, _++_}
+use Prim.Native.Nat.{ℕ, _<_, _≤_}
+use lib.ListN.{length, getD}
+use Rattle.limits.specs.Book.{textBytes}
+use Rattle.program.specs.Program.{WellFormed}
+use Rattle.grammar.specs.Bytes.{Bytes}
+use Rattle.grammar.specs.Grammar.{Clause}
+use Rattle.tables.specs.Numbering.{place, standing, namesOf, programOf}
+use Rattle.tables.specs.Reading.{read, refused, bookOf, reading, Book, Refusal}
+use Rattle.tables.specs.Areas.{Areas, Outcome, short, tablesOf, refusal, readCall}
+
+-- x stands among the names xs
+unfoldable pub Among : Bytes → List Bytes → Type 0
+Among x [] = ⊥
+Among x (y ∷ ys) = (y ≡ x) ⊎ Among x ys
+
+-- texts are accepted and refused as the grammar says, whatever their length
+pub record Judged (fold : ℕ → ℕ) : Type 0 where
+  pub accepted : (t : Bytes) (cs : List Clause) → (bookOf fold t ≡ read cs) ↔ Book fold t cs
+  pub refuses : (t : Bytes) (k line : ℕ) → (bookOf fold t ≡ refused k line) ↔ Refusal fold t k line
+
+-- the text is refused under number k with that line: 2 beyond 16,384 bytes, else as the grammar says
+abbrev pub Refuses : (ℕ → ℕ) → Bytes → ℕ → ℕ → Type 0
+Refuses fold t k line =
+    ((textBytes < length t) × (k ≡ 2) × (line ≡ 0)) ⊎ ((length t ≤ textBytes) × Refusal fold t k line)
+
+-- demand 1 for reading
+pub record Reads (fold : ℕ → ℕ) : Type 0 where
+  pub accepts : (t : Bytes) (cs : List Clause) → (reading fold t ≡ read cs) ↔ ((length t ≤ textBytes) × Book fold t cs)
+  pub refuses : (t : Bytes) (k line : ℕ) → (reading fold t ≡ refused k line) ↔ Refuses fold t k line
+
+-- what the reader returns and leaves where it accepts
+abbrev pub accepted : ℕ → ℕ → Areas → Outcome
+accepted n m o = record { answer = record { number = 0; line = 0; names = n; rules = m }; areas = o }
+
+-- demands 1 and 2 for the reader's call
+pub record ReadCalls (fold : ℕ → ℕ) : Type 0 where
+  -- it accepts exactly the books of the grammar within the limits, and leaves exactly their tables
+  pub accepts : (t : Bytes) (old o : Areas) (n m : ℕ) → (readCall fold t old ≡ accepted n m o)
+      ↔ ((cs : List Clause) × (short old ≡ false) × (length t ≤ textBytes) × Book fold t cs
+      × (n ≡ length (namesOf cs)) × (m ≡ length cs) × (o ≡ tablesOf cs old))
+  -- it refuses under the number and the line of the first cause, and leaves what document 01 says
+  pub refuses : (t : Bytes) (old : Areas) (k line : ℕ) → (k ≡ 0 → ⊥) → (readCall fold t old ≡ refusal k line old)
+      ↔ (((short old ≡ true) × (k ≡ 1) × (line ≡ 0)) ⊎ ((short old ≡ false) × Refuses fold t k line))
+  -- and every call is one or the other
+  pub every-call : (t : Bytes) (old : Areas) → ((n : ℕ) × (m : ℕ) × (o : Areas) × (readCall fold t old ≡ accepted n m o))
+      ⊎ ((k : ℕ) × (line : ℕ) × (k ≡ 0 → ⊥) × (readCall fold t old ≡ refusal k line old))
+
+-- numbering is by first appearance, one to one and onto the names that stand in the book
+pub record Numbers (cs : List Clause) : Type 0 where
+  pub stands : (a : ℕ) → a < length (namesOf cs) → Among (getD (namesOf cs) a []) (standing cs)
+  pub number : (a : ℕ) → a < length (namesOf cs) → place (namesOf cs) (getD (namesOf cs) a []) ≡ a
+  pub below : (x : Bytes) → Among x (standing cs) → place (namesOf cs) x < length (namesOf cs)
+  pub name : (x : Bytes) → Among x (standing cs) → getD (namesOf cs) (place (namesOf cs) x) [] ≡ x
+  pub earlier : (xs ys : List Bytes) (x y : Bytes) → standing cs ≡ xs ++ (y ∷ ys) → Among x xs → (Among y xs → ⊥)
+      → place (namesOf cs) x < place (namesOf cs) y
+  pub formed : WellFormed (programOf cs)
