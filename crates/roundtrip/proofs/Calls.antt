@@ -1,0 +1,251 @@
+-- The writer's call against the reader's.
+-- Assumes nothing.
+use mathlib.Core.Path.{_≡_, sym, ap, ap₂, subst, _∙_}
+use mathlib.Core.Bool.{Bool, true, false, _||_}
+use mathlib.Core.List.{List, [], _∷_, _++_, append-assoc, map}
+use Prim.Native.Nat.{ℕ, zero, suc, _-_, _*_, _≤_}
+use native.Mathlib.Omega.{arith}
+use lib.Dec.{ltb, lit<}
+use lib.ListN.{length, take, drop, replicate, length-append, length-replicate, length-map}
+use lib.Seq.{take-at, take-append-seam}
+use borrow.Author.Tests.{ltb-false, le-ltb}
+use Rattle.limits.specs.Book.{textBytes, nameBytes, rules, bodyWords, nameArea, bodyArea}
+use Rattle.sets.proofs.Logic.{either, clash, not-true, or-left, or-right, pick-true, pick-false}
+use Rattle.words.specs.Row.{Words, pack}
+use Rattle.words.proofs.Rows.{words-pack}
+use Rattle.words.proofs.Areas.{words-append, words-drop}
+use Rattle.grammar.specs.Bytes.{Bytes, Folding, folded}
+use Rattle.grammar.proofs.Folding.{folding as ours}
+use Rattle.grammar.specs.Grammar.{Clause}
+use Rattle.program.specs.Program.{Rule}
+use Rattle.tables.specs.Numbering.{namesOf, numbered}
+use Rattle.tables.specs.Reading.{bookOf, read}
+use Rattle.tables.specs.Areas.{Areas, short, filled, filledWith, nameRows, headRows, bodyRows, tablesOf, readCall}
+use Rattle.tables.specs.Writing.{Readable, Written, wellFormed, placed, writeCall}
+use Rattle.tables.specs.Claims.{accepted}
+use Rattle.tables.proofs.Numbering.{heads-length, bodies-length}
+use Rattle.tables.proofs.Encoding.{length-nameRows, length-filled}
+use Rattle.tables.proofs.Theorems.{judged, read-calls, read-fits, read-good-at}
+use Rattle.roundtrip.specs.Claims.{textOf, ReadsTo, Lent, over, wrote, WriteCalls}
+use Rattle.roundtrip.proofs.Theorems.{round-trip}
+
+-- whether an area is too short, the text area among them
+abbrev cramped : Areas → Bytes → Bool
+cramped o area = short o || ltb (length area) textBytes
+
+-- areas that are long enough
+roomy : (o : Areas) (area : Bytes) → short o ≡ false → textBytes ≤ length area → cramped o area ≡ false
+roomy o area s l = ap₂ _||_ s (le-ltb (length area) textBytes l)
+
+-- and what follows from that
+roomy-long : (o : Areas) (area : Bytes) → cramped o area ≡ false → short o ≡ false
+roomy-long o area e = not-true (short o) (λ s. clash (or-left (ltb (length area) textBytes) s) e)
+
+module _ (fold : ℕ → ℕ) (o : Areas) (n m : ℕ) (area : Bytes) where
+  -- the ways of the call
+  refused-one : cramped o area ≡ true → writeCall fold o n m area .number ≡ 1
+  unfolding writeCall
+  refused-one e = ap (λ (w : Written). w .number) (pick-true _ _ e)
+
+  refused-ten : cramped o area ≡ false → wellFormed fold o n m ≡ false → writeCall fold o n m area .number ≡ 10
+  unfolding writeCall
+  refused-ten e f = ap (λ (w : Written). w .number) (pick-false _ _ e ∙ pick-false _ _ f)
+
+  in-place : cramped o area ≡ false → wellFormed fold o n m ≡ true → writeCall fold o n m area ≡ placed (textOf o n m) area
+  unfolding writeCall
+  in-place e f = pick-false _ _ e ∙ pick-true _ _ f
+
+-- a text too long, and one that fits
+placed-long : (w area : Bytes) → ltb textBytes (length w) ≡ true → placed w area .number ≡ 12
+unfolding placed
+placed-long w area e = ap (λ (x : Written). x .number) (pick-true _ _ e)
+
+placed-fits : (w area : Bytes) → ltb textBytes (length w) ≡ false → placed w area ≡ wrote (length w) (filled textBytes w area)
+unfolding placed
+placed-fits w area e = pick-false _ _ e
+
+-- the text that was placed
+take-filled : (size : ℕ) (w area : List ℕ) → take (length w) (filled size w area) ≡ w
+unfolding filled
+take-filled size w area = take-append-seam w (replicate (size - length w) 0 ++ drop size area)
+
+-- an area filled with xs: over the stated size what another one filled with xs has
+over-filled : (size : ℕ) (xs mine old : List ℕ) → length xs ≤ size → mine ≡ filled size xs mine → take size mine ++ drop size old ≡ filled size xs old
+unfolding filled
+over-filled size xs mine old h e =
+    let zs : List ℕ = replicate (size - length xs) 0 in
+    let l : length (xs ++ zs) ≡ size = simp (length-append, length-replicate) (omega arith) in
+    ap (λ (s : List ℕ). s ++ drop size old)
+    (ap (take size) (e ∙ sym (append-assoc xs zs (drop size mine))) ∙ take-at (xs ++ zs) (drop size mine) size l)
+    ∙ append-assoc xs zs (drop size old)
+
+-- areas keep their lengths when filled
+still-long : (ns : List Bytes) (rs : List (Rule ℕ)) (old : Areas) → length (nameRows ns) ≤ nameArea → length (headRows rs) ≤ rules
+    → length (bodyRows rs) ≤ bodyArea → short old ≡ false → short (filledWith ns rs old) ≡ false
+unfolding short filledWith
+still-long ns rs old a b c s =
+    let long : (x : ℕ) (size : ℕ) → ltb x size ≡ false → size ≤ x = λ x size e. ltb-false x size e in
+    let s1 : ltb (length (old .spellings)) nameArea ≡ false = not-true _ (λ e. clash (or-left _ e) s) in
+    let s2 : ltb (length (old .heads)) rules ≡ false = not-true _ (λ e. clash (or-right (ltb (length (old .spellings)) nameArea) (or-left _ e)) s) in
+    let s3 : ltb (length (old .bodies)) bodyArea ≡ false =
+    not-true _ (λ e. clash (or-right (ltb (length (old .spellings)) nameArea) (or-right (ltb (length (old .heads)) rules) e)) s)
+    in
+    ap₂ _||_ (ap (λ (x : ℕ). ltb x nameArea) (length-filled nameArea (nameRows ns) (old .spellings) a (long _ _ s1)) ∙ s1)
+    (ap₂ _||_ (ap (λ (x : ℕ). ltb x rules) (length-filled rules (headRows rs) (old .heads) b (long _ _ s2)) ∙ s2)
+    (ap (λ (x : ℕ). ltb x bodyArea) (length-filled bodyArea (bodyRows rs) (old .bodies) c (long _ _ s3)) ∙ s3))
+
+-- equal parts make equal areas
+same-areas : {a b c x y z : List ℕ} → a ≡ x → b ≡ y → c ≡ z
+    → _≡_ {A = Areas} (record { spellings = a; heads = b; bodies = c }) (record { spellings = x; heads = y; bodies = z })
+same-areas {a} {b} {c} {x} {y} {z} p q r =
+    let with-names : List ℕ → Areas = λ i. record { spellings = i; heads = b; bodies = c } in
+    let with-heads : List ℕ → Areas = λ i. record { spellings = x; heads = i; bodies = c } in
+    let with-bodies : List ℕ → Areas = λ i. record { spellings = x; heads = y; bodies = i } in
+    ap with-names p ∙ ap with-heads q ∙ ap with-bodies r
+
+-- the words of tables are in range
+words-bodies : (rs : List (Rule ℕ)) → Words (bodyRows rs)
+unfolding bodyRows
+words-bodies [] k = lit< tt
+words-bodies (r ∷ rs) k = words-append (pack bodyWords (r .body)) (bodyRows rs) (words-pack bodyWords (r .body)) (words-bodies rs) k
+
+words-zeros : (n : ℕ) → Words (replicate n 0)
+words-zeros zero k = lit< tt
+words-zeros (suc n) zero = lit< tt
+words-zeros (suc n) (suc k) = words-zeros n k
+
+words-tables : (cs : List Clause) (old : Areas) → Words (old .bodies) → Words (tablesOf cs old .bodies)
+unfolding tablesOf filledWith filled
+words-tables cs old h =
+    let rs : List (Rule ℕ) = map (numbered (namesOf cs)) cs in
+    let size : ℕ = bodyArea - length (bodyRows rs) in
+    words-append (bodyRows rs) (replicate size 0 ++ drop bodyArea (old .bodies)) (words-bodies rs)
+    (words-append (replicate size 0) (drop bodyArea (old .bodies)) (words-zeros size) (words-drop bodyArea (old .bodies) h))
+
+-- numbers that are not the same
+apart : (k i j : ℕ) → k ≡ i → k ≡ j → (i ≡ j → ⊥) → ⊥
+apart k i j p q h = h (sym p ∙ q)
+
+module _ (fold : ℕ → ℕ) (folding : Folding fold) where
+  -- the rows of a book that was read fit their areas
+  module _ (t : Bytes) (cs : List Clause) (e : bookOf fold t ≡ read cs) where
+    names-fit : length (nameRows (namesOf cs)) ≤ nameArea
+    names-fit =
+        let l : length (nameRows (namesOf cs)) ≡ length (namesOf cs) * nameBytes =
+        length-nameRows (namesOf cs) (λ a h. read-good-at fold folding t cs e a h .fits)
+        in
+        omega (arith, l, read-fits fold folding t cs e .1)
+
+    heads-fit : length (headRows (map (numbered (namesOf cs)) cs)) ≤ rules
+    heads-fit =
+        omega (arith, heads-length (map (numbered (namesOf cs)) cs), length-map cs (numbered (namesOf cs)), read-fits fold folding t cs e .0)
+
+    bodies-fit : length (bodyRows (map (numbered (namesOf cs)) cs)) ≤ bodyArea
+    bodies-fit =
+        omega (arith, bodies-length (map (numbered (namesOf cs)) cs), length-map cs (numbered (namesOf cs)), read-fits fold folding t cs e .0)
+
+    -- areas that hold its tables: over the stated sizes they are its tables anywhere
+    over-tables : (o old : Areas) → o ≡ tablesOf cs o → over o old ≡ tablesOf cs old
+    unfolding over tablesOf filledWith
+    over-tables o old q =
+        same-areas (over-filled nameArea _ (o .spellings) (old .spellings) names-fit (ap (λ (x : Areas). x .spellings) q))
+        (over-filled rules _ (o .heads) (old .heads) heads-fit (ap (λ (x : Areas). x .heads) q))
+        (over-filled bodyArea _ (o .bodies) (old .bodies) bodies-fit (ap (λ (x : Areas). x .bodies) q))
+
+    -- and they stay long enough
+    tables-long : (old : Areas) → short old ≡ false → short (tablesOf cs old) ≡ false
+    unfolding tablesOf
+    tables-long old s = still-long _ _ old names-fit heads-fit bodies-fit s
+
+  -- where the writer accepts: the areas are long enough, the tables in order, the text fits
+  module _ (o : Areas) (n m : ℕ) (area : Bytes) (zero-number : writeCall fold o n m area .number ≡ 0) where
+    has-room : cramped o area ≡ false
+    has-room = not-true (cramped o area) (λ c. apart _ 1 0 (refused-one fold o n m area c) zero-number (λ q. omega (arith, q)))
+
+    in-order : wellFormed fold o n m ≡ true
+    in-order =
+        either (wellFormed fold o n m) (λ w. w)
+        (λ w. absurd (apart _ 10 0 (refused-ten fold o n m area has-room w) zero-number (λ q. omega (arith, q))))
+
+    fits : ltb textBytes (length (textOf o n m)) ≡ false
+    fits =
+        not-true (ltb textBytes (length (textOf o n m)))
+        (λ l. apart _ 12 0 (ap (λ (x : Written). x .number) (in-place fold o n m area has-room in-order) ∙ placed-long (textOf o n m) area l) zero-number
+        (λ q. omega (arith, q)))
+
+    whole : writeCall fold o n m area ≡ wrote (length (textOf o n m)) (filled textBytes (textOf o n m) area)
+    whole = in-place fold o n m area has-room in-order ∙ placed-fits (textOf o n m) area fits
+
+  back : (o old : Areas) (n m size : ℕ) (area text : Bytes) → Words (o .bodies) → short old ≡ false
+      → writeCall fold o n m area ≡ wrote size text → readCall fold (take size text) old ≡ accepted n m (over o old)
+  back o old n m size area text words s e =
+      let zero-number : writeCall fold o n m area .number ≡ 0 = ap (λ (x : Written). x .number) e in
+      let q : wrote size text ≡ wrote (length (textOf o n m)) (filled textBytes (textOf o n m) area) = sym e ∙ whole o n m area zero-number in
+      let same : take size text ≡ textOf o n m =
+      ap₂ (λ (i : ℕ) (x : Bytes). take i x) (ap (λ (x : Written). x .size) q) (ap (λ (x : Written). x .text) q)
+      ∙ take-filled textBytes (textOf o n m) area
+      in
+      let r : ReadsTo fold (textOf o n m) o n m =
+      round-trip fold folding .back o n m (roomy-long o area (has-room o n m area zero-number), words) (in-order o n m area zero-number)
+      in
+      ap (λ (x : Bytes). readCall fold x old) same
+      ∙ read-calls fold folding .accepts (textOf o n m) old (over o old) n m .1 (
+        r .cs,
+        s,
+        ltb-false textBytes (length (textOf o n m)) (fits o n m area zero-number),
+        judged fold folding .accepted (textOf o n m) (r .cs) .0 (r .reads),
+        r .count,
+        r .size,
+        over-tables (textOf o n m) (r .cs) (r .reads) o old (r .tables),
+      )
+
+  again : (t area : Bytes) (old o : Areas) (n m : ℕ) → Words (old .bodies) → textBytes ≤ length area → readCall fold t old ≡ accepted n m o
+      → (size : ℕ) × (text : Bytes) × (writeCall fold o n m area ≡ wrote size text) × (size ≤ length t)
+      × ((other : Areas) → short other ≡ false → readCall fold (take size text) other ≡ accepted n m (over o other))
+  again t area old o n m words l e =
+      let (cs, s, short-text, book, a, b, c) = read-calls fold folding .accepts t old o n m .0 e in
+      let reads : bookOf fold t ≡ read cs = judged fold folding .accepted t cs .1 book in
+      let w : Bytes = textOf (tablesOf cs old) (length (namesOf cs)) (length cs) in
+      let r = round-trip fold folding .again t cs old reads in
+      let call : writeCall fold (tablesOf cs old) (length (namesOf cs)) (length cs) area ≡ wrote (length w) (filled textBytes w area) =
+      in-place fold (tablesOf cs old) (length (namesOf cs)) (length cs) area
+      (roomy (tablesOf cs old) area (tables-long t cs reads old s) l) (r .0)
+      ∙ placed-fits w area (le-ltb textBytes (length w) (omega (arith, r .1, short-text)))
+      in
+      let mine : writeCall fold o n m area ≡ wrote (length w) (filled textBytes w area) =
+      ap (λ (i : ℕ). writeCall fold o i m area) a ∙ ap (λ (i : ℕ). writeCall fold o (length (namesOf cs)) i area) b
+      ∙ ap (λ (x : Areas). writeCall fold x (length (namesOf cs)) (length cs) area) c ∙ call
+      in
+      let in-range : Words (o .bodies) = subst (λ (x : Areas). Words (x .bodies)) (sym c) (words-tables cs old words) in (
+        length w,
+        filled textBytes w area,
+        mine,
+        r .1,
+        λ other g. back o other n m (length w) area (filled textBytes w area) in-range g mine,
+      )
+
+  ten-unread : (o : Areas) (n m : ℕ) (area : Bytes) → Lent o → textBytes ≤ length area → writeCall fold o n m area .number ≡ 10 → Readable fold o n m → ⊥
+  ten-unread o n m area lent l e r =
+      let w : wellFormed fold o n m ≡ true = round-trip fold folding .exact o n m lent .1 r in
+      let q : writeCall fold o n m area ≡ placed (textOf o n m) area = in-place fold o n m area (roomy o area (lent .0) l) w in
+      either (ltb textBytes (length (textOf o n m)))
+      (λ g. apart _ 12 10 (ap (λ (x : Written). x .number) q ∙ placed-long (textOf o n m) area g) e (λ i. omega (arith, i)))
+      (λ g. apart _ 0 10 (ap (λ (x : Written). x .number) (q ∙ placed-fits (textOf o n m) area g)) e (λ i. omega (arith, i)))
+
+  unread-ten : (o : Areas) (n m : ℕ) (area : Bytes) → Lent o → textBytes ≤ length area → (Readable fold o n m → ⊥) → writeCall fold o n m area .number ≡ 10
+  unread-ten o n m area lent l unread =
+      refused-ten fold o n m area (roomy o area (lent .0) l)
+      (not-true (wellFormed fold o n m) (λ w. unread (round-trip fold folding .exact o n m lent .0 w)))
+
+  -- what is written reads back, what is read is written, and 10 is given exactly where no book reads to the tables
+  pub write-calls : WriteCalls fold
+  write-calls =
+      record {
+        written-read = back;
+        read-written = again;
+        ten = λ o n m area lent l. (ten-unread o n m area lent l, unread-ten o n m area lent l);
+      }
+
+-- with document 01's letters: demand 2 between tables and text
+pub books-written : WriteCalls folded
+books-written = write-calls folded ours

@@ -1,0 +1,70 @@
+-- Demand 2 between tables and text: what is claimed of writing. The theorems are in proofs/Theorems.antt.
+-- Assumes nothing.
+use mathlib.Core.Path.{_≡_}
+use mathlib.Core.Bool.{true, false}
+use mathlib.Core.Logic.{_↔_}
+use mathlib.Core.List.{List, _++_}
+use Prim.Native.Nat.{ℕ, _≤_}
+use lib.ListN.{length, take, drop}
+use Rattle.limits.specs.Book.{textBytes, rules, nameArea, bodyArea}
+use Rattle.words.specs.Row.{Words}
+use Rattle.grammar.specs.Bytes.{Bytes}
+use Rattle.grammar.specs.Grammar.{Clause}
+use Rattle.tables.specs.Numbering.{namesOf}
+use Rattle.tables.specs.Reading.{bookOf, read}
+use Rattle.tables.specs.Areas.{Areas, short, tablesOf, namesIn, rulesIn, readCall}
+use Rattle.tables.specs.Writing.{Readable, wellFormed, written, Written, writeCall}
+use Rattle.tables.specs.Claims.{accepted}
+
+-- the written text of the tables
+abbrev pub textOf : Areas → ℕ → ℕ → Bytes
+textOf o n m = written (namesIn (o .spellings) n) (rulesIn o m)
+
+-- the text reads to the tables: n names, m rules, and every word of the three areas over their stated sizes
+pub record ReadsTo (fold : ℕ → ℕ) (t : Bytes) (o : Areas) (n m : ℕ) : Type 0 where
+  pub cs : List Clause
+  pub reads : bookOf fold t ≡ read cs
+  pub count : n ≡ length (namesOf cs)
+  pub size : m ≡ length cs
+  pub tables : o ≡ tablesOf cs o
+
+-- areas of at least the stated sizes, whose body words are in range, as those of every lent area are
+abbrev pub Lent : Areas → Type 0
+Lent o = (short o ≡ false) × Words (o .bodies)
+
+pub record RoundTrip (fold : ℕ → ℕ) : Type 0 where
+  -- tables pass the test exactly where some book, of any length, reads to them
+  pub exact : (o : Areas) (n m : ℕ) → Lent o → (wellFormed fold o n m ≡ true) ↔ Readable fold o n m
+  -- the written text reads back to the same tables
+  pub back : (o : Areas) (n m : ℕ) → Lent o → wellFormed fold o n m ≡ true → ReadsTo fold (textOf o n m) o n m
+  -- the tables of a text that is read are in order, and their written text is no longer than it: 12 cannot occur
+  pub again : (t : Bytes) (cs : List Clause) (old : Areas) → bookOf fold t ≡ read cs
+      → (wellFormed fold (tablesOf cs old) (length (namesOf cs)) (length cs) ≡ true)
+      × (length (textOf (tablesOf cs old) (length (namesOf cs)) (length cs)) ≤ length t)
+
+-- the tables of o over the stated sizes, and past them what old has
+unfoldable pub over : Areas → Areas → Areas
+over o old =
+    record {
+      spellings = take nameArea (o .spellings) ++ drop nameArea (old .spellings);
+      heads = take rules (o .heads) ++ drop rules (old .heads);
+      bodies = take bodyArea (o .bodies) ++ drop bodyArea (old .bodies);
+    }
+
+-- what the writer returns and leaves where it accepts
+abbrev pub wrote : ℕ → Bytes → Written
+wrote size text = record { number = 0; size = size; text = text }
+
+-- demand 2 between the two calls
+pub record WriteCalls (fold : ℕ → ℕ) : Type 0 where
+  -- reading what was written, into any areas, gives the same counts and tables
+  pub written-read : (o old : Areas) (n m size : ℕ) (area text : Bytes) → Words (o .bodies) → short old ≡ false
+      → writeCall fold o n m area ≡ wrote size text → readCall fold (take size text) old ≡ accepted n m (over o old)
+  -- the tables of a text that was read are written, in no more bytes than it has, so that neither 10 nor 12 can occur; and read back
+  pub read-written : (t area : Bytes) (old o : Areas) (n m : ℕ) → Words (old .bodies) → textBytes ≤ length area
+      → readCall fold t old ≡ accepted n m o
+      → (size : ℕ) × (text : Bytes) × (writeCall fold o n m area ≡ wrote size text) × (size ≤ length t)
+      × ((other : Areas) → short other ≡ false → readCall fold (take size text) other ≡ accepted n m (over o other))
+  -- 10 exactly where no book, were its length free, reads to the tables
+  pub ten : (o : Areas) (n m : ℕ) (area : Bytes) → Lent o → textBytes ≤ length area
+      → (writeCall fold o n m area .number ≡ 10) ↔ (Readable fold o n m → ⊥)

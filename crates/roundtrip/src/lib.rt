@@ -1,0 +1,1 @@
+// Writing tables and reading the text again: mathematics only.
