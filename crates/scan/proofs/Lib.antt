@@ -1,0 +1,4 @@
+pub mod Entries
+pub mod Scans
+pub mod Steps
+pub mod Hashing

@@ -1,0 +1,10 @@
+-- `scan::table::fold` meets its contract: the lent table has the entry. Assumes nothing.
+use borrow.Author.Needs.{needs}
+use Rattle.scan.proofs.table.fold.Statement.{statement}
+use Rattle.scan.proofs.table.fold.Tie as tie
+
+returns : tie.Need-returns
+returns c = c .before .pre .1 _ (search needs)
+
+pub fold-spec : {M : Type 1} → statement M
+fold-spec = tie.close (tie.spec (λ c. search needs) returns)
