@@ -1,0 +1,4 @@
+pub mod Spelling
+pub mod Chains
+pub mod Entering
+pub mod LookUp

@@ -1,0 +1,104 @@
+// The name area: finding a word among the names through an index, and entering it.
+pub mod look_up;
+
+use limits::Book;
+use rows::clear::clear_tail8;
+use scan::table::fold;
+ghost use mathlib.Core.Path.{_≡_};
+ghost use Prim.Native.Nat.{_+_, _*_, _<_, _≤_};
+ghost use lib.ListN.{length};
+ghost use Rattle.limits.specs.Book.{names, nameBytes, nameArea};
+ghost use Rattle.words.specs.Row.{put};
+ghost use Rattle.scan.specs.Fold.{FoldTable};
+ghost use Rattle.scan.specs.Hash.{hashOf};
+ghost use Rattle.tables.specs.Numbering.{sameBytes, place};
+ghost use Rattle.tables.specs.Areas.{nameAt, namesIn, padded};
+ghost use Rattle.lexicon.specs.Index.{Indexed, NameAt, wordAt, entered, enteredArea, enteredFirst, enteredPrior};
+
+// Whether the word of len bytes from place `at` of the text, folded, is name a.
+pub fn spells(spellings: &[u8], a: usize, text: &[u8], table: &[u8], at: usize, len: usize) -> bool
+    requires { ⌜ (a < names) × (nameArea ≤ length (now spellings)) × NameAt (now text) at len × FoldTable (now table) ⌝ }
+    ensures { λ r. ⌜ r ≡ sameBytes (nameAt (now (spellings .entry)) a) (wordAt (now (text .entry)) at len) ⌝ }
+{
+    let row = Book::name_at(a);
+    let mut i = 0;
+    while i < len {
+        let b = text[at + i];
+        let f = fold(table, b);
+        if spellings[row + i] != f {
+            return false;
+        }
+        i += 1;
+    }
+    len == Book::NAME_BYTES || spellings[row + len] == 0
+}
+
+// The number of that word among the first n names, n where it is none of them.
+pub fn find(
+    spellings: &[u8],
+    n: usize,
+    first: &[u16],
+    prior: &[u16],
+    text: &[u8],
+    table: &[u8],
+    at: usize,
+    len: usize,
+    bucket: usize,
+) -> usize
+    requires { ⌜ (n ≤ names) × (nameArea ≤ length (now spellings)) × NameAt (now text) at len × FoldTable (now table) ⌝ }
+    requires { ⌜ Indexed (namesIn (now spellings) n) (now first) (now prior) × (bucket ≡ hashOf (wordAt (now text) at len)) ⌝ }
+    ensures { λ r. ⌜ r ≡ place (namesIn (now (spellings .entry)) n) (wordAt (now (text .entry)) at len) ⌝ }
+{
+    let mut k = first[bucket] as usize;
+    while k != 0 {
+        if spells(spellings, k - 1, text, table, at, len) {
+            return k - 1;
+        }
+        k = prior[k - 1] as usize;
+    }
+    n
+}
+
+// Row a becomes that word, padded with zeros.
+pub fn write_name(spellings: &mut [u8], a: usize, text: &[u8], table: &[u8], at: usize, len: usize)
+    requires { ⌜ (a < names) × (nameArea ≤ length (now spellings)) × NameAt (now text) at len × FoldTable (now table) ⌝ }
+    ensures { λ r. ⌜ now (spellings .exit) ≡ put (a * nameBytes) (padded (wordAt (now (text .entry)) at len)) (now (spellings .entry)) ⌝ }
+{
+    let row = Book::name_at(a);
+    let mut i = 0;
+    while i < len {
+        spellings[row + i] = fold(table, text[at + i]);
+        i += 1;
+    }
+    clear_tail8(spellings, row + len, row + Book::NAME_BYTES);
+}
+
+// The number of that word; where it is new and there is room, it joins the names. Book::NAMES means that there is no room.
+pub fn enter(
+    spellings: &mut [u8],
+    n: usize,
+    first: &mut [u16],
+    prior: &mut [u16],
+    text: &[u8],
+    table: &[u8],
+    at: usize,
+    len: usize,
+    bucket: usize,
+) -> usize
+    requires { ⌜ (n ≤ names) × (nameArea ≤ length (now spellings)) × NameAt (now text) at len × FoldTable (now table) ⌝ }
+    requires { ⌜ Indexed (namesIn (now spellings) n) (now first) (now prior) × (bucket ≡ hashOf (wordAt (now text) at len)) ⌝ }
+    ensures number { λ r. ⌜ r ≡ place (namesIn (now (spellings .entry)) n) (wordAt (now (text .entry)) at len) ⌝ }
+    ensures area { λ r. ⌜ now (spellings .exit) ≡ enteredArea (namesIn (now (spellings .entry)) n) (wordAt (now (text .entry)) at len) (now (spellings .entry)) ⌝ }
+    ensures index { λ r. ⌜ Indexed (entered (namesIn (now (spellings .entry)) n) (wordAt (now (text .entry)) at len)) (now (first .exit)) (now (prior .exit)) ⌝ }
+    ensures firsts { λ r. ⌜ now (first .exit) ≡ enteredFirst (namesIn (now (spellings .entry)) n) (wordAt (now (text .entry)) at len) (now (first .entry)) ⌝ }
+    ensures priors { λ r. ⌜ now (prior .exit) ≡ enteredPrior (namesIn (now (spellings .entry)) n) (wordAt (now (text .entry)) at len) (now (first .entry)) (now (prior .entry)) ⌝ }
+{
+    let a = find(spellings, n, first, prior, text, table, at, len, bucket);
+    if a < n || n == Book::NAMES {
+        return a;
+    }
+    write_name(spellings, n, text, table, at, len);
+    prior[n] = first[bucket];
+    first[bucket] = (n + 1) as u16;
+    a
+}
