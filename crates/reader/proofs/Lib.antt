@@ -1,0 +1,12 @@
+pub mod Places
+pub mod Forms
+pub mod Rows
+pub mod Meeting
+pub mod Joining
+pub mod Heading
+pub mod Passing
+pub mod Saying
+pub mod Stepping
+pub mod Marking
+pub mod Lining
+pub mod Calling
