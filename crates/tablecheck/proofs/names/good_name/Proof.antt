@@ -1,0 +1,45 @@
+-- `tablecheck::names::good_name` meets its contract. An empty name and a strange byte settle it, else the padding does. Assumes nothing.
+use borrow.Author.Tests.{not-true, not-false}
+use native.Mathlib.Omega.{arith}
+use mathlib.Core.Path.{sym, _∙_}
+use Rattle.grammar.specs.Bytes.{folded}
+use Rattle.tablecheck.proofs.Spelling.{name-fits, good-none, good-strange, good-rest}
+use borrow.Author.Needs.{needs}
+use Rattle.tablecheck.proofs.names.good_name.Statement.{statement}
+use Rattle.tablecheck.proofs.names.good_name.Tie as tie
+
+returns : tie.Need-returns
+returns c =
+    good-none _ (c .before .before .before .before .before .args .a) _ _ (c .before .before .name-at .ensures) (c .before .name-end .ensures) folded
+    (c .if1 .taken)
+
+own-bytes-requires : tie.Need-own-bytes-requires
+own-bytes-requires c κs =
+    let a = c .before .before .before .before .before .args in
+    (omega (arith, name-fits (a .spellings .now) (a .a)), search needs)
+
+returns-2 : tie.Need-returns-2
+returns-2 c =
+    good-strange _ (c .before .before .before .before .before .before .before .args .a) _ _ (c .before .before .before .before .name-at .ensures)
+    (c .before .before .before .name-end .ensures) folded
+    (sym (c .before .own-bytes .ensures) ∙ not-true (c .before .own-bytes .result) (c .if2 .taken))
+
+returns-3 : tie.Need-returns-3
+returns-3 c =
+    c .zero8 .ensures ∙ good-rest _ (c .before .before .before .before .before .before .before .before .args .a) _ _
+    (c .before .before .before .before .before .name-at .ensures) (c .before .before .before .before .name-end .ensures) folded
+    (c .before .before .before .if1 .left) (sym (c .before .before .own-bytes .ensures) ∙ not-false (c .before .before .own-bytes .result)
+    (c .before .if2 .left))
+
+pub good-name-spec : {M : Type 1} → statement M
+good-name-spec =
+    tie.close
+    (tie.spec
+    (λ c κs. search needs)
+    (λ c κs. search needs)
+    returns
+    own-bytes-requires
+    returns-2
+    (λ c. search needs)
+    (λ c κs. search needs)
+    returns-3)

@@ -1,0 +1,75 @@
+// The public call that writes tables as text.
+use limits::Book;
+ghost use mathlib.Core.Path.{_≡_};
+ghost use Rattle.grammar.specs.Bytes.{folded};
+ghost use Rattle.tables.specs.Writing.{writeCall};
+ghost use Rattle.writer.specs.Short.{tooShort};
+
+pub mod measure;
+pub mod put;
+
+// The number of a refusal, 0 for none, and the size of the text.
+pub struct Written {
+    pub number: usize,
+    pub size: usize,
+}
+
+impl Written {
+    pub const SHORT_AREA: usize = 1;
+
+    pub const ILL_FORMED: usize = 10;
+
+    pub const TOO_LONG: usize = 12;
+}
+
+// Whether an area is shorter than its stated size.
+pub fn too_short(spellings: usize, heads: usize, bodies: usize, text: usize) -> bool
+    ensures { λ r. ⌜ r ≡ tooShort spellings heads bodies text ⌝ }
+{
+    if spellings < Book::NAME_AREA {
+        return true;
+    }
+    if heads < Book::RULES {
+        return true;
+    }
+    if bodies < Book::BODY_AREA {
+        return true;
+    }
+    text < Book::TEXT_BYTES
+}
+
+// Writes the n names and m rules as text, zero after it; a refusal leaves the area as it was.
+pub fn write(
+    spellings: &[u8],
+    heads: &[u16],
+    bodies: &[u64],
+    n: usize,
+    m: usize,
+    text: &mut [u8],
+) -> Written
+    ensures { λ r. ⌜ record { number = r .number; size = r .size; text = now (text .exit) }
+        ≡ writeCall folded (record { spellings = now (spellings .entry); heads = now (heads .entry); bodies = now (bodies .entry) }) n m (now (text .entry)) ⌝ }
+{
+    if too_short(spellings.len(), heads.len(), bodies.len(), text.len()) {
+        return Written {
+            number: Written::SHORT_AREA,
+            size: 0,
+        };
+    }
+    if !tablecheck::well_formed(spellings, heads, bodies, n, m) {
+        return Written {
+            number: Written::ILL_FORMED,
+            size: 0,
+        };
+    }
+    let size = measure::text_len(spellings, heads, bodies, n, m);
+    if Book::TEXT_BYTES < size {
+        return Written {
+            number: Written::TOO_LONG,
+            size: 0,
+        };
+    }
+    put::put_text(spellings, heads, bodies, n, m, text);
+    rows::clear::clear_tail8(text, size, Book::TEXT_BYTES);
+    Written { number: 0, size }
+}
