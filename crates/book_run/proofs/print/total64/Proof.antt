@@ -1,0 +1,27 @@
+-- `book_run::print::total64` is safe. Assumes nothing.
+use Prim.Native.Nat.{_-_}
+use lib.ListN.{length}
+use borrow.Author.Needs.{needs}
+use Rattle.book_run.proofs.print.total64.Statement.{statement}
+use Rattle.book_run.proofs.print.total64.Tie as tie
+
+abbrev Inv-loop : tie.InvT-loop
+Inv-loop area s₀ i₀ s i = Unit
+
+abbrev μ-loop : tie.MeasureT-loop
+μ-loop area s₀ i₀ s i = length area - i
+
+pub total64-spec : {M : Type 1} → statement M
+total64-spec =
+    tie.close
+    (tie.spec
+    Inv-loop
+    μ-loop
+    (λ c. search needs)
+    (λ c. search needs)
+    (λ c. search needs)
+    (λ c κs. search needs)
+    (λ c. search needs)
+    (λ c. search needs)
+    (λ c. search needs)
+    (λ c. search needs))
