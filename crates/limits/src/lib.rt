@@ -1,4 +1,4 @@
-// The book type: every limit of a book, once, and where the parts of an area begin.
+// The book type: every limit of a book, once, and where the parts of an area begin. The numbers of refusals.
 ghost use mathlib.Core.Path.{_≡_};
 ghost use Prim.Native.Nat.{_*_, _/_, _%_, _≤_};
 ghost use Rattle.limits.specs.Book.{textBytes, names, nameBytes, rules, atoms, folds, wordBits};
@@ -87,4 +87,33 @@ impl Book {
     {
         a % Book::WORD_BITS
     }
+}
+
+// The numbers under which calls refuse, as document 01 has them.
+pub struct Refusal;
+
+impl Refusal {
+    pub const SHORT_AREA: usize = 1;
+
+    pub const LONG_TEXT: usize = 2;
+
+    pub const MARK: usize = 3;
+
+    pub const LAST_BYTE: usize = 4;
+
+    pub const LINE: usize = 5;
+
+    pub const NAMES: usize = 6;
+
+    pub const RULES: usize = 7;
+
+    pub const ATOMS: usize = 8;
+
+    pub const FOLDS: usize = 9;
+
+    pub const ILL_FORMED: usize = 10;
+
+    pub const START_LOST: usize = 11;
+
+    pub const LONG_WRITTEN: usize = 12;
 }

@@ -3,6 +3,7 @@ mod clause;
 
 use clause::rule;
 use limits::Book;
+use limits::Refusal;
 use rows::clear::clear_tail8;
 use rows::clear::clear_tail16;
 use rows::clear::clear_tail64;
@@ -117,7 +118,7 @@ fn step(
     );
     if !taken.sound {
         return Next {
-            cause: 5,
+            cause: Refusal::LINE,
             at: taken.at,
             names: n,
             rules: m,
@@ -125,7 +126,7 @@ fn step(
     }
     if m == Book::RULES {
         return Next {
-            cause: 7,
+            cause: Refusal::RULES,
             at: taken.at,
             names: n,
             rules: m,
@@ -133,7 +134,7 @@ fn step(
     }
     if !taken.room {
         return Next {
-            cause: 6,
+            cause: Refusal::NAMES,
             at: taken.at,
             names: n,
             rules: m,
@@ -218,16 +219,16 @@ pub fn read(text: &[u8], spellings: &mut [u8], heads: &mut [u16], bodies: &mut [
         || heads.len() < Book::RULES
         || bodies.len() < Book::BODY_AREA
     {
-        return refused(1, 0);
+        return refused(Refusal::SHORT_AREA, 0);
     }
     if Book::TEXT_BYTES < text.len() {
-        return refused(2, 0);
+        return refused(Refusal::LONG_TEXT, 0);
     }
     if !begins(text) {
-        return refused(3, 0);
+        return refused(Refusal::MARK, 0);
     }
     if text[text.len() - 1] != Cursor::LINE_END {
-        return refused(4, 0);
+        return refused(Refusal::LAST_BYTE, 0);
     }
     let table = folding();
     let mut first = [0u16; Word::BUCKETS];

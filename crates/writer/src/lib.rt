@@ -1,5 +1,6 @@
 // The public call that writes tables as text.
 use limits::Book;
+use limits::Refusal;
 ghost use mathlib.Core.Path.{_≡_};
 ghost use Rattle.grammar.specs.Bytes.{folded};
 ghost use Rattle.tables.specs.Writing.{writeCall};
@@ -12,14 +13,6 @@ pub mod put;
 pub struct Written {
     pub number: usize,
     pub size: usize,
-}
-
-impl Written {
-    pub const SHORT_AREA: usize = 1;
-
-    pub const ILL_FORMED: usize = 10;
-
-    pub const TOO_LONG: usize = 12;
 }
 
 // Whether an area is shorter than its stated size.
@@ -52,20 +45,20 @@ pub fn write(
 {
     if too_short(spellings.len(), heads.len(), bodies.len(), text.len()) {
         return Written {
-            number: Written::SHORT_AREA,
+            number: Refusal::SHORT_AREA,
             size: 0,
         };
     }
     if !tablecheck::well_formed(spellings, heads, bodies, n, m) {
         return Written {
-            number: Written::ILL_FORMED,
+            number: Refusal::ILL_FORMED,
             size: 0,
         };
     }
     let size = measure::text_len(spellings, heads, bodies, n, m);
     if Book::TEXT_BYTES < size {
         return Written {
-            number: Written::TOO_LONG,
+            number: Refusal::LONG_WRITTEN,
             size: 0,
         };
     }
