@@ -8,7 +8,7 @@ use native.Mathlib.Omega.{arith}
 use lib.Count.{trailingZeros, trailing-le}
 use lib.Dec.{ltb}
 use lib.ListN.{getD}
-use lib.Pow.{pow-pos, shr-le}
+use lib.Pow.{shr-le}
 use mir.Syntax.{w64}
 use mir.Val.{Fits}
 use borrow.Author.Tests.{ltb-true, ltb-false}
@@ -17,7 +17,7 @@ use Rattle.sets.specs.Set.{Set, next}
 use Rattle.words.specs.Row.{bit, row, part}
 use Rattle.sets.proofs.Logic.{either, clash}
 use Rattle.sets.proofs.Walk.{Following, next-spec, next-unique}
-use Rattle.words.proofs.Bits.{bit-zero, bit-shr, bit-high, bits-equal, trailing-next}
+use Rattle.words.proofs.Bits.{bit-zero, bit-shr, bit-high, trailing-next, trailing-lt}
 use Rattle.words.proofs.Rows.{row-word}
 use Rattle.rows.proofs.Reading.{Known, word-of}
 
@@ -64,14 +64,7 @@ module _ (at w : ℕ) (area : List ℕ) (p : Known area) (k b i : ℕ) (ek : k �
     first = rw (trailing-next wordBits rest) (next-spec wordBits (bit rest) 0)
 
     low : t < wordBits
-    low =
-        either (ltb t wordBits) (λ e. ltb-true t wordBits e)
-        (λ e.
-        let m : wordBits ≤ t = ltb-false t wordBits e in
-        absurd
-        (h
-        (bits-equal wordBits rest 0 rest-lt (pow-pos wordBits)
-        (λ j g. first .0 j (omega arith) (omega arith) ∙ sym (bit-zero j)))))
+    low = trailing-lt wordBits rest rest-lt h
 
     here : b + t < wordBits
     here =

@@ -155,6 +155,36 @@ image-find r g f i e =
     let j : ℕ = q .0 in
     (j, q .1, eqb-true (g j) i (and-left (eqb (g j) i) (f j) (q .2)), and-right (eqb (g j) i) (f j) (q .2))
 
+-- one number more: where it goes to another place, or is no member, the image is as it was
+pub image-other : (r : ℕ) (g : ℕ → ℕ) (f : Set) (i : ℕ) → (g r ≡ i → ⊥) → image (suc r) g f i ≡ image r g f i
+unfolding image exists
+image-other r g f i n = ap (λ (b : Bool). (b && f r) || exists r (λ k. eqb (g k) i && f k)) (ne-eqb (g r) i n)
+
+pub image-out : (r : ℕ) (g : ℕ → ℕ) (f : Set) (i : ℕ) → f r ≡ false → image (suc r) g f i ≡ image r g f i
+unfolding image exists
+image-out r g f i e = kept (eqb (g r) i) (f r) (exists r (λ k. eqb (g k) i && f k)) e
+  where
+    kept : (a b c : Bool) → b ≡ false → (a && b) || c ≡ c
+    kept true b c e = rw e
+    kept false b c e = refl
+
+-- and where it is one, its place joins
+pub image-in : (r : ℕ) (g : ℕ → ℕ) (f : Set) (i : ℕ) → f r ≡ true → image (suc r) g f i ≡ union (image r g f) (only (g r)) i
+unfolding image exists
+image-in r g f i e = grown (eqb (g r) i) (f r) (exists r (λ k. eqb (g k) i && f k)) e
+  where
+    grown : (a b c : Bool) → b ≡ true → (a && b) || c ≡ c || a
+    grown true b true e = rw e
+    grown true b false e = rw e
+    grown false b true e = refl
+    grown false b false e = refl
+
+-- where no smaller number goes to its place, it decides there alone
+pub image-here : (r : ℕ) (g : ℕ → ℕ) (f : Set) → ((k : ℕ) → k < r → g k ≡ g r → ⊥) → image (suc r) g f (g r) ≡ f r
+image-here r g f none =
+    either (f r) (λ t. image-make (suc r) g f r (omega arith) t ∙ sym t)
+    (λ e. image-out r g f (g r) e ∙ not-true (image r g f (g r)) (λ t. let q = image-find r g f (g r) t in none (q .0) (q .1) (q .2)) ∙ sym e)
+
 -- an image counts as many as f where g is one to one below r and stays below n
 pub count-image : (n r : ℕ) (g : ℕ → ℕ) (f : Set)
     → ((j : ℕ) → j < r → g j < n)
@@ -175,23 +205,13 @@ count-image n (suc r) g f into inj =
     in
     let one-more : count n (image (suc r) g f) ≡ count n (union (image r g f) (only (g r))) =
     count-same n (image (suc r) g f) (union (image r g f) (only (g r)))
-    (λ i l. unfold image exists in grown (eqb (g r) i) (f r) (exists r (λ j. eqb (g j) i && f j)) e)
+    (λ i l. image-in r g f i e)
     in
     one-more ∙ count-add-one n (g r) (image r g f) (into r (omega arith)) new ∙ ap suc ih ∙ sym (count-in r f e))
     (λ e.
     count-same n (image (suc r) g f) (image r g f)
-    (λ i l. unfold image exists in kept (eqb (g r) i) (f r) (exists r (λ j. eqb (g j) i && f j)) e)
+    (λ i l. image-out r g f i e)
     ∙ ih ∙ sym (count-out r f e))
-  where
-    grown : (a b c : Bool) → b ≡ true → (a && b) || c ≡ c || a
-    grown true b true e = rw e
-    grown true b false e = rw e
-    grown false b true e = refl
-    grown false b false e = refl
-
-    kept : (a b c : Bool) → b ≡ false → (a && b) || c ≡ c
-    kept true b c e = rw e
-    kept false b c e = refl
 
 -- a set with no member from n on counts up to n
 pub count-tail : (n m : ℕ) (f : Set) → n ≤ m → ((i : ℕ) → n ≤ i → i < m → f i ≡ false) → count m f ≡ count n f

@@ -1,5 +1,6 @@
 pub mod Logic
 pub mod Tests
+pub mod Every
 pub mod Counting
 pub mod Ranges
 pub mod Walk

@@ -1,6 +1,7 @@
 -- Facts about Bool as they are used here: a test is `b ≡ true` or `b ≡ false`.
 -- Assumes nothing.
 use mathlib.Core.Path.{_≡_, refl, sym, _∙_}
+use mathlib.Core.Logic.{_↔_}
 use mathlib.Core.Bool.{Bool, true, false, not, _&&_, _||_, Bool·beq, true≢false}
 use Rattle.sets.specs.Set.{pick}
 
@@ -65,6 +66,13 @@ beq-refl true true e = refl
 beq-refl true false e = clash refl e
 beq-refl false true e = clash refl (sym e)
 beq-refl false false e = refl
+
+-- two statements where both hold, and where neither does
+pub holds : {A B : Type 0} → A → B → A ↔ B
+holds a b = (λ x. b, λ y. a)
+
+pub fails : {A B : Type 0} → (A → ⊥) → (B → ⊥) → A ↔ B
+fails f g = (λ a. absurd (f a), λ b. absurd (g b))
 
 -- the two ways of a pick
 pub pick-true : {A : Type 0} {b : Bool} (x y : A) → b ≡ true → pick b x y ≡ x

@@ -42,6 +42,27 @@ exists-find (suc n) p e =
 pub exists-none : (n : ℕ) (p : Set) → exists n p ≡ false → (i : ℕ) → i < n → p i ≡ false
 exists-none n p e i l = not-true (p i) (λ t. clash (exists-make n p i l t) e)
 
+-- some member of f is in r, where f is g with t: t is, or some member of g
+pub exists-one : (n t : ℕ) (f g r : Set) → t < n → ((b : ℕ) → f b ≡ only t b || g b)
+    → exists n (λ b. f b && r b) ≡ r t || exists n (λ b. g b && r b)
+exists-one n t f g r l h =
+    iff (exists n (λ b. f b && r b)) (r t || exists n (λ b. g b && r b))
+    (λ e.
+    let q = exists-find n (λ b. f b && r b) e in
+    let b : ℕ = q .0 in
+    let there : r b ≡ true = and-right (f b) (r b) (q .2) in
+    or-elim (only t b) (g b) (sym (h b) ∙ and-left (f b) (r b) (q .2))
+    (λ o. or-left (exists n (λ b. g b && r b)) (ap r (eqb-true t b o) ∙ there))
+    (λ o. or-right (r t) (exists-make n (λ b. g b && r b) b (q .1) (and-make o there))))
+    (λ e.
+    or-elim (r t) (exists n (λ b. g b && r b)) e
+    (λ o. exists-make n (λ b. f b && r b) t l (and-make (h t ∙ or-left (g t) (eq-eqb t t refl)) o))
+    (λ o.
+    let q = exists-find n (λ b. g b && r b) o in
+    let b : ℕ = q .0 in
+    exists-make n (λ b. f b && r b) b (q .1)
+    (and-make (h b ∙ or-right (only t b) (and-left (g b) (r b) (q .2))) (and-right (g b) (r b) (q .2)))))
+
 pub within-at : (n : ℕ) (f g : Set) → within n f g ≡ true → Within n f g
 unfolding within
 within-at n f g e i l p =

@@ -8,13 +8,14 @@ use Prim.Native.Nat.{ℕ, zero, suc, _+_, _-_, _≤_, _<_}
 use native.Mathlib.Nat.{add-zero, le-refl, eq-or-lt-of-le, le-antisymm}
 use native.Mathlib.Numerals.{one-add}
 use native.Mathlib.Omega.{arith}
-use lib.Dec.{ltb}
+use lib.Dec.{eqb, ltb}
 use lib.ListN.{length}
-use borrow.Author.Tests.{ltb-true, ltb-false}
-use Rattle.sets.specs.Set.{Set, pick, count, next, members}
+use borrow.Author.Tests.{eqb-true, eqb-false, ltb-true, ltb-false}
+use Rattle.sets.specs.Set.{Set, pick, within, count, next, members}
 use Rattle.sets.proofs.Ranges.{count-add}
 use Rattle.sets.proofs.Counting.{count-in, count-out, count-same}
-use Rattle.sets.proofs.Logic.{either, clash, pick-true, pick-false}
+use Rattle.sets.proofs.Logic.{either, clash, iff, pick-true, pick-false}
+use Rattle.sets.proofs.Tests.{within-at, within-make}
 
 -- r is the first member of f at or past i, or i + k where the k numbers from i hold none
 abbrev pub Following : ℕ → Set → ℕ → ℕ → Type 0
@@ -36,6 +37,10 @@ pub next-spec : (k : ℕ) (f : Set) (i : ℕ) → Following k f i (next k f i)
 unfolding next
 next-spec zero f i = ((λ j l m. absurd (omega arith)), (λ l. absurd (omega arith)), le-refl i, omega arith)
 next-spec (suc k) f i = first-step k f i (next k f (suc i)) (f i) refl (next-spec k f (suc i))
+
+-- no member lies between a and the first one at or past it, r being that one or n
+pub none-between : (n a r : ℕ) (f : Set) → r ≡ next (n - a) f a → (j : ℕ) → a ≤ j → j < r → f j ≡ false
+none-between n a r f e = rw e (next-spec (n - a) f a .0)
 
 -- no first member comes before another
 first-le : (k : ℕ) (f : Set) (i r s : ℕ) → Following k f i r → Following k f i s → s ≤ r
@@ -122,3 +127,21 @@ members-count (suc k) f i =
 -- a step of a loop to n stays within it and never goes back
 pub walk-range : (n i r : ℕ) (f : Set) → i ≤ n → r ≡ next (n - i) f i → (i ≤ r) × (r ≤ n)
 walk-range n i r f l e = let s = next-spec (n - i) f i in (omega (arith, s .2), omega (arith, s .3))
+
+-- the members of f below n are all below i exactly where there is none from i on
+pub next-within : (n i : ℕ) (f : Set) → i ≤ n → eqb (next (n - i) f i) n ≡ within n f (λ k. ltb k i)
+next-within n i f l =
+    let s = next-spec (n - i) f i in
+    let r : ℕ = next (n - i) f i in
+    iff (eqb r n) (within n f (λ k. ltb k i))
+    (λ e.
+    let q : r ≡ n = eqb-true r n e in
+    within-make n f (λ k. ltb k i)
+    (λ k b t. either (ltb k i) (λ u. u) (λ u. clash t (s .0 k (ltb-false k i u) (omega arith)))))
+    (λ e.
+    either (eqb r n) (λ u. u)
+    (λ u.
+    let ne : r ≡ n → ⊥ = eqb-false r n u in
+    let b : r < n = omega (arith, s .3, ne) in
+    let c : r < i = ltb-true r i (within-at n f (λ k. ltb k i) e r b (s .1 (omega arith))) in
+    absurd (omega (arith, s .2))))

@@ -8,9 +8,9 @@ use borrow.Author.Tests.{le-leb, lt-leb, leb-true}
 use Rattle.limits.specs.Book.{names, nameBytes, rules, bodyWords, nameArea, bodyArea}
 use Rattle.sets.specs.Set.{every}
 use Rattle.sets.proofs.Logic.{and-left, and-right, not-true, clash}
-use Rattle.tables.specs.Areas.{Areas, rulesIn}
+use Rattle.tables.specs.Areas.{Areas, rulesIn, rulesOnly}
 use Rattle.tables.specs.Writing.{zeroFrom, goodName, different, numbersIn, orderly, metIn, wellFormed}
-use Rattle.tablecheck.specs.Order.{ordered, rulesOnly}
+use Rattle.tablecheck.specs.Order.{ordered}
 use Rattle.tablecheck.proofs.Meeting.{rules-only}
 
 -- eight tests, bracketed as in wellFormed: one that fails settles them all

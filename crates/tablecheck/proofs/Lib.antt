@@ -1,6 +1,5 @@
 pub mod Places
 pub mod Spelling
-pub mod Every
 pub mod Walks
 pub mod Meeting
 pub mod Formed

@@ -13,9 +13,9 @@ use Rattle.limits.specs.Book.{names, bodyWords}
 use Rattle.sets.specs.Set.{Set, pick, next, members}
 use Rattle.sets.proofs.Logic.{either, pick-true, pick-false}
 use Rattle.words.specs.Row.{row, part}
-use Rattle.tables.specs.Areas.{Areas, ruleAt, rulesFrom, rulesIn}
+use Rattle.tables.specs.Areas.{Areas, ruleAt, rulesFrom, rulesIn, rulesOnly}
 use Rattle.tables.specs.Writing.{orderly, metIn, numbersOf, numbersIn}
-use Rattle.tablecheck.specs.Order.{counted, ordered, rulesOnly}
+use Rattle.tablecheck.specs.Order.{counted, ordered}
 use Rattle.tablecheck.proofs.Walks.{onward, stop-at, stop-on, stop-none}
 
 -- a number that is in order

@@ -1,11 +1,10 @@
 -- Numbering by first appearance as the code finds it.
 -- Assumes nothing.
 use mathlib.Core.Bool.{Bool, _&&_}
-use mathlib.Core.List.{List, []}
+use mathlib.Core.List.{List}
 use Prim.Native.Nat.{ℕ, suc}
 use lib.Dec.{eqb}
 use Rattle.sets.specs.Set.{pick}
-use Rattle.tables.specs.Areas.{Areas}
 use Rattle.tables.specs.Writing.{orderly, metIn}
 
 -- one past the largest number that a head can be
@@ -19,7 +18,3 @@ counted met xs = pick (orderly met xs) (suc (metIn met xs)) 0
 -- the numbers are in order from the first on, and n in all
 unfoldable pub ordered : ℕ → List ℕ → Bool
 ordered n xs = orderly 0 xs && eqb (metIn 0 xs) n
-
--- heads and bodies alone
-abbrev pub rulesOnly : List ℕ → List ℕ → Areas
-rulesOnly heads bodies = record { spellings = []; heads = heads; bodies = bodies }

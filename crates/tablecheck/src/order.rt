@@ -4,9 +4,9 @@ ghost use mathlib.Core.Path.{_≡_};
 ghost use Prim.Native.Nat.{_+_, _<_, _≤_, suc, max};
 ghost use lib.ListN.{length};
 ghost use Rattle.limits.specs.Book.{rules, bodyArea};
-ghost use Rattle.tables.specs.Areas.{ruleAt, rulesIn};
+ghost use Rattle.tables.specs.Areas.{ruleAt, rulesIn, rulesOnly};
 ghost use Rattle.tables.specs.Writing.{numbersOf, numbersIn};
-ghost use Rattle.tablecheck.specs.Order.{headEnd, counted, ordered, rulesOnly};
+ghost use Rattle.tablecheck.specs.Order.{headEnd, counted, ordered};
 
 // How many numbers are met once a is.
 pub fn raised(met: usize, a: usize) -> usize

@@ -8,7 +8,7 @@ use native.Mathlib.Omega.{arith}
 use lib.Dec.{eqb, ltb}
 use borrow.Author.Tests.{eqb-true, ltb-true, ltb-false}
 use lib.ListN.{length, getD, take, drop, replicate, length-append, length-take, length-drop, length-replicate, take-append-drop}
-use lib.Seq.{take-at, drop-at, take-append-seam, drop-append-seam, drop-append-add, drop-drop, drop-cons, take-add}
+use lib.Seq.{take-at, take-append-seam, drop-append-seam, drop-append-add, drop-drop, drop-cons, take-add}
 use Rattle.limits.specs.Book.{names, nameBytes, rules, bodyWords, nameArea, bodyArea}
 use Rattle.sets.specs.Set.{Set, pick}
 use Rattle.sets.proofs.Logic.{either, and-left, and-right, pick-true}
@@ -340,17 +340,6 @@ pub length-filled : (size : ℕ) (xs old : List ℕ) → length xs ≤ size → 
 unfolding filled
 length-filled size xs old h g = simp (length-append, length-replicate, length-drop) (omega arith)
 
--- the used part and its zeros are the stated size
-length-used : (size : ℕ) (xs : List ℕ) → length xs ≤ size → length (xs ++ replicate (size - length xs) 0) ≡ size
-length-used size xs h = simp (length-append, length-replicate) (omega arith)
-
--- what lies past the stated size is as it was
-pub drop-filled : (size : ℕ) (xs old : List ℕ) → length xs ≤ size → drop size (filled size xs old) ≡ drop size old
-unfolding filled
-drop-filled size xs old h =
-    ap (drop size) (sym (append-assoc xs (replicate (size - length xs) 0) (drop size old)))
-    ∙ drop-at (xs ++ replicate (size - length xs) 0) (drop size old) size (length-used size xs h)
-
 -- past the used part there are zeros up to the stated size
 pub zero-filled : (size : ℕ) (xs old : List ℕ) → zeroFrom (length xs) size (filled size xs old) ≡ true
 unfolding filled zeroFrom
@@ -392,7 +381,7 @@ unfolding begun
 length-begun xs old h = simp (length-append, length-drop) (omega arith)
 
 -- what lies past the used part is as it was
-drop-begun : (k : ℕ) (xs old : List ℕ) → length xs ≤ k → drop k (begun xs old) ≡ drop k old
+pub drop-begun : (k : ℕ) (xs old : List ℕ) → length xs ≤ k → drop k (begun xs old) ≡ drop k old
 unfolding begun
 drop-begun k xs old h =
     let q : k ≡ length xs + (k - length xs) = omega arith in

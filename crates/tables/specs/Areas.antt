@@ -8,7 +8,7 @@ use lib.ListN.{length, getD, drop, replicate}
 use Rattle.limits.specs.Book.{names, nameBytes, rules, bodyWords, nameArea, bodyArea}
 use Rattle.sets.specs.Set.{pick}
 use Rattle.words.specs.Row.{row, part, pack}
-use Rattle.program.specs.Program.{Rule}
+use Rattle.program.specs.Program.{Rule, Program}
 use Rattle.grammar.specs.Bytes.{Bytes}
 use Rattle.grammar.specs.Grammar.{Clause}
 use Rattle.grammar.specs.Lines.{run}
@@ -123,3 +123,11 @@ rulesFrom o (suc k) j = ruleAt o j ∷ rulesFrom o k (suc j)
 -- the first m rules of the tables
 abbrev pub rulesIn : Areas → ℕ → List (Rule ℕ)
 rulesIn o m = rulesFrom o m 0
+
+-- heads and bodies alone
+abbrev pub rulesOnly : List ℕ → List ℕ → Areas
+rulesOnly heads bodies = record { spellings = []; heads = heads; bodies = bodies }
+
+-- the program that n names and the first m rules of the tables give
+abbrev pub programIn : List ℕ → List ℕ → ℕ → ℕ → Program
+programIn heads bodies n m = record { names = n; rules = rulesIn (rulesOnly heads bodies) m }

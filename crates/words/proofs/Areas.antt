@@ -1,12 +1,12 @@
 -- A row in its place in an area: reading it, writing it, and what writing leaves as it was.
 -- Assumes nothing.
-use mathlib.Core.Path.{_≡_, sym, ap, subst, _∙_}
-use mathlib.Core.List.{List, [], _∷_, _++_, append-assoc}
+use mathlib.Core.Path.{_≡_, sym, ap, ap₂, subst, _∙_}
+use mathlib.Core.List.{List, [], _∷_, _++_, append-assoc, append-nil}
 use Prim.Native.Nat.{ℕ, zero, suc, _+_, _-_, _*_, _≤_}
 use native.Mathlib.Omega.{arith}
 use lib.Pow.{pow-pos}
-use lib.ListN.{length, take, drop, length-append, length-take, length-drop, take-append-drop}
-use lib.Seq.{getD-drop, length-take-le, take-append-seam, take-append-le, drop-append-le, drop-at, drop-drop}
+use lib.ListN.{length, take, drop, length-append, length-take, length-drop, take-append-drop, drop-of-length-le}
+use lib.Seq.{getD-drop, length-take-le, take-all, take-at, take-append-seam, take-append-le, drop-append-le, drop-at, drop-drop}
 use Rattle.sets.specs.Set.{Set, Same}
 use Rattle.limits.specs.Book.{wordBits}
 use Rattle.words.specs.Row.{row, Words, pack, part, put}
@@ -26,6 +26,14 @@ part-put at ys area h =
     let l : length (take at area) ≡ at = length-take-le at area (omega arith) in
     ap (take (length ys)) (drop-at (take at area) (ys ++ drop (at + length ys) area) at l)
     ∙ take-append-seam ys (drop (at + length ys) area)
+
+-- all of an area as a part of it
+pub part-whole : (w : ℕ) (area : List ℕ) → length area ≡ w → part 0 w area ≡ area
+part-whole w area e = take-all w area (omega arith)
+
+-- words put over all of an area
+pub put-whole : (ys area : List ℕ) → length area ≡ length ys → put 0 ys area ≡ ys
+put-whole ys area e = ap (λ (zs : List ℕ). ys ++ zs) (drop-of-length-le area {i = 0 + length ys} (omega arith)) ∙ append-nil ys
 
 -- a part of the front of an area
 part-front : (p w : ℕ) (xs ys : List ℕ) → p + w ≤ length xs → part p w (xs ++ ys) ≡ part p w xs
@@ -49,14 +57,34 @@ drop-put at ys area h =
     ap (drop (at + length ys)) (sym (append-assoc (take at area) ys (drop (at + length ys) area)))
     ∙ drop-at (take at area ++ ys) (drop (at + length ys) area) (at + length ys) l
 
+-- from any place past them on
+pub put-past : (at : ℕ) (ys area : List ℕ) → at + length ys ≤ length area
+    → (k : ℕ) → at + length ys ≤ k → drop k (put at ys area) ≡ drop k area
+put-past at ys area h k l =
+    let q : k ≡ at + length ys + (k - (at + length ys)) = omega arith in
+    let past : (l : List ℕ) → drop k l ≡ drop (k - (at + length ys)) (drop (at + length ys) l) =
+    λ l. ap (λ (n : ℕ). drop n l) q ∙ sym (drop-drop (k - (at + length ys)) (at + length ys) l) in
+    past (put at ys area) ∙ ap (drop (k - (at + length ys))) (drop-put at ys area h) ∙ sym (past area)
+
 -- so a part wholly after them is as it was
 pub part-put-after : (at : ℕ) (ys area : List ℕ) (p w : ℕ)
     → at + length ys ≤ length area → at + length ys ≤ p → part p w (put at ys area) ≡ part p w area
-part-put-after at ys area p w h l =
-    let q : p ≡ at + length ys + (p - (at + length ys)) = omega arith in
-    let past : (l : List ℕ) → drop p l ≡ drop (p - (at + length ys)) (drop (at + length ys) l) =
-    λ l. ap (λ (n : ℕ). drop n l) q ∙ sym (drop-drop (p - (at + length ys)) (at + length ys) l) in
-    ap (take w) (past (put at ys area) ∙ ap (drop (p - (at + length ys))) (drop-put at ys area h) ∙ sym (past area))
+part-put-after at ys area p w h l = ap (take w) (put-past at ys area h p l)
+
+-- words put over as many leave nothing of them
+pub put-over : (at : ℕ) (xs ys zs rest : List ℕ) → length xs ≡ at → length zs ≡ length ys
+    → put at zs (xs ++ (ys ++ rest)) ≡ xs ++ (zs ++ rest)
+put-over at xs ys zs rest e q =
+    let l : length (xs ++ ys) ≡ at + length zs = omega (arith, length-append xs ys) in
+    ap₂ (λ (s t : List ℕ). s ++ (zs ++ t)) (take-at xs (ys ++ rest) at e)
+    (ap (drop (at + length zs)) (sym (append-assoc xs ys rest)) ∙ drop-at (xs ++ ys) rest (at + length zs) l)
+
+-- nor do words put where as many were put
+pub put-again : (at : ℕ) (xs ys area : List ℕ) → at + length xs ≤ length area → length ys ≡ length xs
+    → put at ys (put at xs area) ≡ put at ys area
+put-again at xs ys area h e =
+    put-over at (take at area) xs ys (drop (at + length xs) area) (length-take-le at area (omega arith)) e
+    ∙ ap (λ (k : ℕ). take at area ++ (ys ++ drop (at + k) area)) (sym e)
 
 -- a part put back where it stood changes nothing
 pub put-part : (at w : ℕ) (area : List ℕ) → at + w ≤ length area → put at (part at w area) area ≡ area
@@ -81,12 +109,6 @@ words-append (x ∷ xs) ys p q (suc k) = words-append xs ys (λ i. p (suc i)) q 
 -- so the words of a part are in range
 pub words-part : (at w : ℕ) (area : List ℕ) → Words area → Words (part at w area)
 words-part at w area h = words-take w (drop at area) (words-drop at area h)
-
--- and those of an area that a row was put into
-pub words-put : (at : ℕ) (ys area : List ℕ) → Words ys → Words area → Words (put at ys area)
-words-put at ys area p h =
-    words-append (take at area) (ys ++ drop (at + length ys) area) (words-take at area h)
-    (words-append ys (drop (at + length ys) area) p (words-drop (at + length ys) area h))
 
 -- the set packed and put into an area is read back from its place
 pub row-put : (at w : ℕ) (f : Set) (area : List ℕ)

@@ -2,7 +2,7 @@
 -- Assumes nothing.
 use mathlib.Core.Path.{_≡_, refl, sym, ap, ap₂, _∙_, fun-ext}
 use mathlib.Core.Logic.{⊎-elim}
-use mathlib.Core.Bool.{Bool, true, false, not, _&&_, _||_, Bool·beq, Bool·not-not, true≢false}
+use mathlib.Core.Bool.{Bool, true, false, not, _&&_, _||_, Bool·beq, Bool·not-not, and-self, true≢false}
 use Prim.Native.Nat.{ℕ, zero, suc, _+_, _-_, _*_, _/_, _%_, _^_, _≤_, _<_, min, max}
 use native.Mathlib.Nat.{zero-div, div-one, zero-add, suc-add, pow-suc, pow-succ', div-div-eq-div-mul, div-eq-of-lt, lt-of-lt-of-le, lt-of-le-of-lt, eq-or-lt-of-le, mod-lt}
 use native.Mathlib.Omega.{arith}
@@ -215,6 +215,59 @@ trailing-next (suc k) w =
     ap (under (w % 2)) (trailing-next k (w / 2) ∙ ap (λ (f : Set). next k f 0) (sym (fun-ext (bit-suc w))))
     ∙ by-digits (λ x. under x (next k (λ j. bit w (suc j)) 0) ≡ pick (eqb x 1) 0 (suc (next k (λ j. bit w (suc j)) 0))) refl refl w
     ∙ ap₂ (λ (b : Bool) (n : ℕ). pick b 0 n) (sym (bit-first w)) (sym (next-suc k (bit w) 0))
+
+-- the same by the lowest digit
+trailing-odd : (k w : ℕ) → w % 2 ≡ 1 → trailingZeros (suc k) w ≡ 0
+unfolding trailingZeros
+trailing-odd k w e = ap (λ (d : ℕ). under d (trailingZeros k (w / 2))) e
+
+trailing-even : (k w : ℕ) → w % 2 ≡ 0 → trailingZeros (suc k) w ≡ suc (trailingZeros k (w / 2))
+unfolding trailingZeros
+trailing-even k w e = ap (λ (d : ℕ). under d (trailingZeros k (w / 2))) e
+
+-- cases on the lowest digit
+odd-or-even : {X : Type 0} (w : ℕ) → (w % 2 ≡ 1 → X) → (w % 2 ≡ 0 → X) → X
+odd-or-even {X} = by-digits (λ d. (d ≡ 1 → X) → (d ≡ 0 → X) → X) (λ f g. g refl) (λ f g. f refl)
+
+-- a word of k bits that is not 0 has its lowest among them
+pub trailing-lt : (k w : ℕ) → w < 2 ^ k → (w ≡ 0 → ⊥) → trailingZeros k w < k
+trailing-lt zero w h n = absurd (n (lt-one h))
+trailing-lt (suc k) w h n =
+    odd-or-even w (λ e. omega (arith, trailing-odd k w e))
+    (λ e. omega (arith, trailing-even k w e, trailing-lt k (w / 2) (half-lt k w h) (λ z. n (omega arith))))
+
+-- every bit of w but its lowest is one of w - 1 too
+lowest-digits : (k w i : ℕ) → w < 2 ^ k → (w ≡ 0 → ⊥) → bit w i ≡ eqb (trailingZeros k w) i || bit w i && bit (w - 1) i
+lowest-digits zero w i h n = absurd (n (lt-one h))
+lowest-digits (suc k) w zero h n =
+    odd-or-even w
+    (λ e.
+    bit-first w ∙ ap (λ (d : ℕ). eqb d 1) e
+    ∙ sym (ap (λ (t : ℕ). eqb t 0 || bit w 0 && bit (w - 1) 0) (trailing-odd k w e)))
+    (λ e.
+    let f : bit w 0 ≡ false = bit-first w ∙ ap (λ (d : ℕ). eqb d 1) e in
+    f ∙ sym (ap₂ (λ (t : ℕ) (b : Bool). eqb t 0 || b && bit (w - 1) 0) (trailing-even k w e) f ∙ ap (λ (b : Bool). b || false) (eqb·suc-zero (trailingZeros k (w / 2)))))
+lowest-digits (suc k) w (suc i) h n =
+    odd-or-even w
+    (λ e.
+    let q : (w - 1) / 2 ≡ w / 2 = omega arith in
+    let same : bit (w - 1) (suc i) ≡ bit w (suc i) = bit-suc (w - 1) i ∙ ap (λ (x : ℕ). bit x i) q ∙ sym (bit-suc w i) in
+    sym
+    (ap₂ (λ (t : ℕ) (b : Bool). eqb t (suc i) || bit w (suc i) && b) (trailing-odd k w e) same
+    ∙ ap (λ (b : Bool). b || bit w (suc i) && bit w (suc i)) (eqb·zero-suc i) ∙ and-self (bit w (suc i))))
+    (λ e.
+    let q : (w - 1) / 2 ≡ w / 2 - 1 = omega (arith, n) in
+    let up : eqb (trailingZeros (suc k) w) (suc i) ≡ eqb (trailingZeros k (w / 2)) i =
+    ap (λ (t : ℕ). eqb t (suc i)) (trailing-even k w e) ∙ eqb·suc-suc (trailingZeros k (w / 2)) i in
+    bit-suc w i ∙ lowest-digits k (w / 2) i (half-lt k w h) (λ z. n (omega arith))
+    ∙ sym
+    (ap₂ _||_ up
+    (ap₂ _&&_ (bit-suc w i) (bit-suc (w - 1) i ∙ ap (λ (x : ℕ). bit x i) q))))
+
+-- so the bits of w are its lowest and those of the and of w and w - 1
+pub bit-lowest : (k w i : ℕ) → w < 2 ^ k → (w ≡ 0 → ⊥) → bit w i ≡ eqb (trailingZeros k w) i || bit (bitAnd w (w - 1)) i
+bit-lowest k w i h n =
+    lowest-digits k w i h n ∙ ap (λ (b : Bool). eqb (trailingZeros k w) i || b) (sym (bit-and w (w - 1) i))
 
 -- the number made of k bits has k bits
 pub binary-lt : (k : ℕ) (f : Set) → binary k f < 2 ^ k

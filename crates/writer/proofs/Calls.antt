@@ -13,11 +13,10 @@ use Rattle.sets.proofs.Logic.{or-left, or-right, clash, pick-true, pick-false}
 use Rattle.program.specs.Program.{Rule}
 use Rattle.rows.specs.Clear.{cleared}
 use Rattle.grammar.specs.Bytes.{Bytes}
-use Rattle.tables.specs.Areas.{Areas, short, namesIn, rulesIn}
+use Rattle.tables.specs.Areas.{Areas, short, namesIn, rulesIn, rulesOnly}
 use Rattle.tables.specs.Begun.{begun}
 use Rattle.tables.specs.Writing.{written, wellFormed, placed, writeCall}
 use Rattle.tables.proofs.Encoding.{length-begun, begun-filled}
-use Rattle.tablecheck.specs.Order.{rulesOnly}
 use Rattle.tablecheck.proofs.Meeting.{rules-only}
 use Rattle.tablecheck.proofs.Formed.{few}
 use Rattle.writer.specs.Short.{tooShort}

@@ -10,9 +10,8 @@ use Rattle.sets.specs.Set.{next}
 use Rattle.words.specs.Row.{row, part}
 use Rattle.grammar.specs.Bytes.{Bytes, colon, lineEnd}
 use Rattle.grammar.specs.Grammar.{mark, joined}
-use Rattle.tables.specs.Areas.{Areas, nameAt, namesIn, ruleAt, rulesIn}
+use Rattle.tables.specs.Areas.{Areas, nameAt, namesIn, ruleAt, rulesIn, rulesOnly}
 use Rattle.tables.specs.Writing.{ruleText, written}
-use Rattle.tablecheck.specs.Order.{rulesOnly}
 use Rattle.tablecheck.proofs.Spelling.{name-fits}
 use Rattle.writer.specs.Spelt.{spelt, restOf}
 use Rattle.writer.proofs.Lines.{spelt-yes, spelt-no, after, after-start, after-on, after-end, bodyText, line, body-bare, body-full}

@@ -11,10 +11,9 @@ use Rattle.sets.specs.Set.{next, members}
 use Rattle.words.specs.Row.{row, part}
 use Rattle.grammar.specs.Bytes.{Bytes, colon, space, lineEnd}
 use Rattle.grammar.specs.Grammar.{mark, joined}
-use Rattle.tables.specs.Areas.{Areas, nameAt, namesIn, ruleAt, rulesFrom, rulesIn}
+use Rattle.tables.specs.Areas.{Areas, nameAt, namesIn, ruleAt, rulesFrom, rulesIn, rulesOnly}
 use Rattle.tables.specs.Writing.{spacedOn, spaced, ruleText, written}
 use Rattle.tables.proofs.Encoding.{length-namesFrom, getD-namesFrom}
-use Rattle.tablecheck.specs.Order.{rulesOnly}
 use Rattle.tablecheck.proofs.Spelling.{name-part}
 use Rattle.tablecheck.proofs.Walks.{onward, stop-at, stop-here, stop-on, stop-none}
 use Rattle.writer.specs.Spelt.{spelt, restOf}

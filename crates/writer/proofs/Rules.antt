@@ -11,10 +11,9 @@ use Rattle.words.specs.Row.{row, part, put}
 use Rattle.words.proofs.Areas.{length-put}
 use Rattle.grammar.specs.Bytes.{Bytes, colon, space, lineEnd}
 use Rattle.grammar.specs.Grammar.{mark, joined}
-use Rattle.tables.specs.Areas.{Areas, nameAt, namesIn, ruleAt, rulesIn}
+use Rattle.tables.specs.Areas.{Areas, nameAt, namesIn, ruleAt, rulesIn, rulesOnly}
 use Rattle.tables.specs.Begun.{begun}
 use Rattle.tables.specs.Writing.{ruleText, written}
-use Rattle.tablecheck.specs.Order.{rulesOnly}
 use Rattle.tablecheck.proofs.Spelling.{name-fits}
 use Rattle.writer.specs.Spelt.{spelt, restOf}
 use Rattle.writer.proofs.Lines.{spelt-no, spelt-part, after, after-start, after-on, after-end, bodyText, line, body-bare, body-full}

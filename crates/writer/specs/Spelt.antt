@@ -8,9 +8,8 @@ use Rattle.sets.specs.Set.{members}
 use Rattle.words.specs.Row.{row, part}
 use Rattle.grammar.specs.Bytes.{Bytes}
 use Rattle.grammar.specs.Grammar.{joined}
-use Rattle.tables.specs.Areas.{namesIn, ruleAt, rulesIn}
+use Rattle.tables.specs.Areas.{namesIn, ruleAt, rulesIn, rulesOnly}
 use Rattle.tables.specs.Writing.{spacedOn, ruleText, written}
-use Rattle.tablecheck.specs.Order.{rulesOnly}
 
 -- name a of the first n, nothing where a is not below n
 unfoldable pub spelt : Bytes → ℕ → ℕ → Bytes

@@ -7,7 +7,7 @@ use Rattle.sets.specs.Set.{every}
 use Rattle.tables.specs.Numbering.{sameBytes}
 use Rattle.tables.specs.Areas.{nameAt}
 use Rattle.tables.specs.Writing.{different}
-use Rattle.tablecheck.proofs.Every.{every-none, every-on, every-off, every-end}
+use Rattle.sets.proofs.Every.{every-none, every-on, every-off, every-end}
 use borrow.Author.Needs.{needs}
 use Rattle.tablecheck.proofs.names.all_differ.Statement.{statement}
 use Rattle.tablecheck.proofs.names.all_differ.Tie as tie

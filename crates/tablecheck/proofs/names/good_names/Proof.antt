@@ -6,7 +6,7 @@ use Prim.Native.Nat.{_-_, _≤_}
 use Rattle.sets.specs.Set.{every}
 use Rattle.grammar.specs.Bytes.{folded}
 use Rattle.tables.specs.Writing.{goodName}
-use Rattle.tablecheck.proofs.Every.{every-none, every-on, every-off, every-end}
+use Rattle.sets.proofs.Every.{every-none, every-on, every-off, every-end}
 use borrow.Author.Needs.{needs}
 use Rattle.tablecheck.proofs.names.good_names.Statement.{statement}
 use Rattle.tablecheck.proofs.names.good_names.Tie as tie

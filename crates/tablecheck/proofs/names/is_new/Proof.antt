@@ -5,7 +5,7 @@ use Prim.Native.Nat.{_-_, _≤_}
 use Rattle.sets.specs.Set.{every}
 use Rattle.tables.specs.Numbering.{sameBytes}
 use Rattle.tables.specs.Areas.{nameAt}
-use Rattle.tablecheck.proofs.Every.{every-none, every-on, every-off, every-end}
+use Rattle.sets.proofs.Every.{every-none, every-on, every-off, every-end}
 use borrow.Author.Needs.{needs}
 use Rattle.tablecheck.proofs.names.is_new.Statement.{statement}
 use Rattle.tablecheck.proofs.names.is_new.Tie as tie

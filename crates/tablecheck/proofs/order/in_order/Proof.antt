@@ -1,9 +1,9 @@
 -- `tablecheck::order::in_order` meets its contract. The loop's invariant: the numbers of the rules left decide. Assumes nothing.
 use mathlib.Core.Path.{_≡_}
 use Prim.Native.Nat.{_-_, _≤_}
-use Rattle.tables.specs.Areas.{rulesFrom, rulesIn}
+use Rattle.tables.specs.Areas.{rulesFrom, rulesIn, rulesOnly}
 use Rattle.tables.specs.Writing.{numbersIn}
-use Rattle.tablecheck.specs.Order.{headEnd, counted, rulesOnly}
+use Rattle.tablecheck.specs.Order.{headEnd, counted}
 use Rattle.tablecheck.proofs.Meeting.{rules-start, rules-off, rules-on, rules-end}
 use borrow.Author.Needs.{needs}
 use Rattle.tablecheck.proofs.order.in_order.Statement.{statement}

@@ -5,9 +5,9 @@ use Prim.Native.Nat.{_+_, _-_, _*_, _≤_}
 use Rattle.limits.specs.Book.{names, bodyWords}
 use Rattle.sets.proofs.Walk.{walk-range}
 use Rattle.words.specs.Row.{row, part}
-use Rattle.tables.specs.Areas.{ruleAt}
+use Rattle.tables.specs.Areas.{ruleAt, rulesOnly}
 use Rattle.tables.specs.Writing.{numbersOf}
-use Rattle.tablecheck.specs.Order.{headEnd, counted, rulesOnly}
+use Rattle.tablecheck.specs.Order.{headEnd, counted}
 use Rattle.tablecheck.proofs.Walks.{onward}
 use Rattle.tablecheck.proofs.Meeting.{head-off, head-on, body-off, body-on, body-end}
 use borrow.Author.Needs.{needs}

@@ -3,9 +3,8 @@ use mathlib.Core.Path.{_≡_}
 use Prim.Native.Nat.{_+_, _-_, _*_, _≤_}
 use lib.ListN.{length}
 use Rattle.grammar.specs.Grammar.{mark}
-use Rattle.tables.specs.Areas.{namesIn, rulesIn}
+use Rattle.tables.specs.Areas.{namesIn, rulesIn, rulesOnly}
 use Rattle.tables.specs.Writing.{written}
-use Rattle.tablecheck.specs.Order.{rulesOnly}
 use Rattle.writer.specs.Spelt.{lineBytes}
 use Rattle.writer.proofs.Lines.{linesFrom}
 use Rattle.writer.proofs.Lengths.{text-start, text-on, text-end}

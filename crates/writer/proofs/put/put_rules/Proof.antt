@@ -5,9 +5,8 @@ use mathlib.Core.List.{map}
 use Prim.Native.Nat.{_-_, _≤_}
 use lib.ListN.{length}
 use Rattle.grammar.specs.Grammar.{joined}
-use Rattle.tables.specs.Areas.{namesIn, rulesIn}
+use Rattle.tables.specs.Areas.{namesIn, rulesIn, rulesOnly}
 use Rattle.tables.specs.Writing.{ruleText}
-use Rattle.tablecheck.specs.Order.{rulesOnly}
 use Rattle.writer.proofs.Lines.{linesFrom}
 use Rattle.writer.proofs.Putting.{Left}
 use Rattle.writer.proofs.Rules.{lines-none, lines-length, lines-done, rule-room, end-slot, lines-more}

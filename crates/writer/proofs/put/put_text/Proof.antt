@@ -1,6 +1,5 @@
 -- `writer::put::put_text` meets its contract. The mark, then the lines. Assumes nothing.
-use Rattle.tables.specs.Areas.{namesIn}
-use Rattle.tablecheck.specs.Order.{rulesOnly}
+use Rattle.tables.specs.Areas.{namesIn, rulesOnly}
 use Rattle.writer.proofs.Rules.{mark-room, lines-room, text-done}
 use borrow.Author.Needs.{needs}
 use Rattle.writer.proofs.put.put_text.Statement.{statement}
