@@ -10,8 +10,8 @@ use native.Mathlib.Omega.{arith}
 use lib.Bits.{bitOr, or-lt}
 use lib.Pow.{pow-lt, shl-exact}
 use lib.Dec.{eqb}
-use lib.ListN.{length, getD, take, drop, set, length-append, length-take, length-set, take-append-drop}
-use lib.Seq.{drop-cons, set-at, getD-drop, getD-append-add, getD-set-same, getD-set-other, drop-drop}
+use lib.ListN.{length, getD, take, drop, set, length-append, length-take, length-drop, length-set, take-append-drop}
+use lib.Seq.{take-suc, drop-cons, set-at, getD-drop, getD-append-add, getD-set-same, getD-set-other, drop-drop}
 use borrow.Author.Tests.{eqb-true, eqb-false, eq-eqb, ne-eqb}
 use borrow.Rule.Slice.PartMut.{set-mid-at}
 use Rattle.limits.specs.Book.{wordBits}
@@ -125,6 +125,28 @@ module _ (at start w : ℕ) (old src : List ℕ) where
         ∙ ap (λ (v : ℕ). put at (pack j both ++ (v ∷ [])) old)
         (sym (word-is word (λ i. both (j * wordBits + i)) (or-lt wordBits _ _ (p (at + j) .fits) (q (start + j) .fits)) word-bits))
         ∙ ap (λ (ys : List ℕ). put at ys old) (sym (pack-more j both) ∙ ap (λ (k : ℕ). pack k both) (sym (add-one j)))
+
+-- the words at `start` of src put at `at` of old
+module _ (at start : ℕ) (old src : List ℕ) where
+  -- before the first word nothing is put
+  pub copy-none : old ≡ put at (part start 0 src) old
+  copy-none = put-none at old
+
+  -- one word more
+  pub copy-on : (new : List ℕ) (j : ℕ) → new ≡ put at (part start j src) old → at + j < length old → start + j < length src
+      → set new (at + j) (getD src (start + j) 0) ≡ put at (part start (j + 1) src) old
+  copy-on new j e h l =
+      let n : length (part start j src) ≡ j = length-part start j src (omega arith) in
+      let room : j < length (drop start src) = simp length-drop (omega arith) in
+      ap (λ (xs : List ℕ). set xs (at + j) (getD src (start + j) 0)) e
+      ∙ put-more at j (part start j src) old n h (getD src (start + j) 0)
+      ∙ ap (λ (v : ℕ). put at (part start j src ++ (v ∷ [])) old) (sym (getD-drop start src j 0))
+      ∙ ap (λ (ys : List ℕ). put at ys old)
+      (sym (take-suc (drop start src) j 0 room) ∙ ap (λ (k : ℕ). part start k src) (sym (add-one j)))
+
+  -- past the last word
+  pub copy-all : (new : List ℕ) (j w : ℕ) → new ≡ put at (part start j src) old → j ≤ w → w ≤ j → new ≡ put at (part start w src) old
+  copy-all new j w e l m = e ∙ ap (λ (k : ℕ). put at (part start k src) old) (le-antisymm l m)
 
 -- a row with one word changed, in its place
 set-put : (at w q v : ℕ) (old : List ℕ) → at + w ≤ length old → q < w

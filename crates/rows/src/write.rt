@@ -1,4 +1,4 @@
-// What is written into a row: one atom, or those of another row.
+// What is written into a row: one atom, those of another row, or its words.
 use limits::Book;
 ghost use mathlib.Core.Path.{_≡_};
 ghost use Prim.Native.Nat.{_+_, _*_, _<_, _≤_};
@@ -25,5 +25,17 @@ pub fn unite(to: &mut [u64], at: usize, from: &[u64], start: usize, width: usize
     while j < width {
         to[at + j] = to[at + j] | from[start + j];
         j += 1;
+    }
+}
+
+// The words of `from` take the place of those of `to`.
+pub fn copy(to: &mut [u64], at: usize, from: &[u64], start: usize, width: usize)
+    requires { ⌜ (at + width ≤ length (now to)) × (start + width ≤ length (now from)) ⌝ }
+    ensures { λ r. ⌜ now (to .exit) ≡ put at (part start width (now (from .entry))) (now (to .entry)) ⌝ }
+{
+    let mut k = 0;
+    while k < width {
+        to[at + k] = from[start + k];
+        k += 1;
     }
 }
