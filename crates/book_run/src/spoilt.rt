@@ -20,7 +20,7 @@ fn written_to(
         let w = writer::write(spellings, heads, bodies, n, m, &mut text[0..room]);
         print::number(w.number as u64);
         print::number(w.size as u64);
-        print::last(print::total8(text));
+        print::last(checksum::total8(text));
     }
 }
 

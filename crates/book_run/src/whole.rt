@@ -34,9 +34,9 @@ fn print_answer(r: Answer) {
 }
 
 fn print_totals(spellings: &[u8], heads: &[u16], bodies: &[u64]) {
-    print::number(print::total8(spellings));
-    print::number(print::total16(heads));
-    print::last(print::total64(bodies));
+    print::number(checksum::total8(spellings));
+    print::number(checksum::total16(heads));
+    print::last(checksum::total64(bodies));
 }
 
 // Reads into areas that are lent, and prints the answer and a checksum of each.
@@ -93,7 +93,7 @@ fn rewrite(spellings: &[u8], heads: &[u16], bodies: &[u64], n: usize, m: usize) 
     let mut text = [Area::MARK8; Area::TEXT];
     let w = writer::write(spellings, heads, bodies, n, m, &mut text);
     print::number(w.size as u64);
-    print::last(print::total8(&text));
+    print::last(checksum::total8(&text));
     reread(&text, w.size, spellings, n);
 }
 
