@@ -1,0 +1,9 @@
+pub mod Packed
+pub mod Bridge
+pub mod Formed
+pub mod Folds
+pub mod Running
+pub mod Standard
+pub mod Stages
+pub mod Sizes
+pub mod Theorems

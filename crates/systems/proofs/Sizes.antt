@@ -1,0 +1,301 @@
+-- What lies past the stated sizes is neither judged nor touched: tests, rows and rounds are those of the first entries of each area, and
+-- what is written is written within them, with the rest after it.
+-- Assumes nothing.
+use mathlib.Core.Path.{_≡_, refl, sym, ap, ap₂, _∙_, fun-ext}
+use mathlib.Core.Bool.{Bool, true, not, _&&_, _||_}
+use mathlib.Core.List.{List, [], _∷_, _++_, append-assoc, append-nil}
+use Prim.Native.Nat.{ℕ, zero, suc, _+_, _-_, _*_, _≤_, _<_}
+use native.Mathlib.Nat.{le-trans, suc-mul, mul-le-mul-right}
+use native.Mathlib.Omega.{arith}
+use lib.Dec.{eqb, leb, ltb}
+use borrow.Author.Tests.{ltb-true, lt-ltb}
+use lib.ListN.{length, take, drop, replicate, length-take, take-append-drop}
+use lib.Seq.{getD-take, take-take, slice-empty, ext-getD}
+use Rattle.limits.specs.Book.{names, rules, atoms, wordBits, rowWords, bodyWords, bodyArea, rowArea}
+use Rattle.sets.specs.Set.{Set, Same, pick, exists, within}
+use Rattle.sets.proofs.Logic.{either, iff, pick-true, pick-false}
+use Rattle.sets.proofs.Tests.{every-same, exists-same, within-same}
+use Rattle.sets.proofs.Rounds.{rounds-agree, reached-agree}
+use Rattle.words.specs.Row.{row, pack, part}
+use Rattle.words.proofs.Rows.{length-pack}
+use Rattle.program.specs.Program.{Rule, Program, blank}
+use Rattle.program.specs.System.{System, round, unfoldOnce, unfolded, roundsOf, heldBy}
+use Rattle.program.specs.Standard.{allRow, anyRow, startSet, standard}
+use Rattle.tables.specs.Areas.{Areas, filled, ruleAt, rulesFrom, rulesOnly, programIn}
+use Rattle.tables.specs.Begun.{begun}
+use Rattle.tables.proofs.Encoding.{length-rulesFrom, getD-rulesFrom}
+use Rattle.systems.specs.Rows.{rowIn, packed, below, formedRows}
+use Rattle.systems.specs.Fold.{FoldOutcome, shortRows, formedAll, foldRefusal, foldedArea, foldCall}
+use Rattle.systems.specs.Rounds.{RoundsOutcome, modelIn, withModel, systemIn, shortSystem, formedSystem, startKept, roundsRefusal, runOf, roundsCall}
+use Rattle.systems.specs.Standardise.{RowAreas, StandardOutcome, shortTables, formedEntry, formedTables, standardRefusal, standardRows, standardOf, standardCall}
+use Rattle.systems.specs.Claims.{foldWithRest, roundsWithRest, statedRows, rowsWithRest, standardWithRest, StatedSizes}
+use Rattle.systems.proofs.Packed.{length-packed, packed-same}
+use Rattle.systems.proofs.Formed.{round-same}
+use Rattle.systems.proofs.Bridge.{formed-limits}
+use Rattle.systems.proofs.Folds.{all-formed}
+use Rattle.systems.proofs.Running.{below-same, in-order}
+use Rattle.systems.proofs.Standard.{standardWell}
+
+-- The first entries of an area.
+
+-- they and what follows them
+both-parts : (size : ℕ) (area : List ℕ) → area ≡ take size area ++ drop size area
+both-parts size area = sym (take-append-drop size area)
+
+-- they are too few where the area is too short
+short-first : (size : ℕ) (area : List ℕ) → ltb (length area) size ≡ ltb (length (take size area)) size
+short-first size area =
+    iff (ltb (length area) size) (ltb (length (take size area)) size)
+    (λ e. let l : length area < size = ltb-true (length area) size e in
+    lt-ltb (length (take size area)) size (simp length-take (omega arith)))
+    (λ e. let l : length (take size area) < size = ltb-true (length (take size area)) size e in
+    lt-ltb (length area) size (omega (arith, length-take size area)))
+
+-- a part that lies within them
+part-first : (at w size : ℕ) (area : List ℕ) → at + w ≤ size → part at w area ≡ part at w (take size area)
+part-first zero w size area h = sym (take-take w size area (omega arith))
+part-first (suc at) w zero area h = absurd (omega arith)
+part-first (suc at) w (suc size) [] h = refl
+part-first (suc at) w (suc size) (x ∷ area) h = part-first at w size area (omega arith)
+
+-- a row of them
+row-first : (w r size : ℕ) (area : List ℕ) → r * w ≤ size → (i : ℕ) → i < r → rowIn w area i ≡ rowIn w (take size area) i
+row-first w r size area h i l =
+    let b : suc i * w ≤ r * w = mul-le-mul-right w l in
+    let q : suc i * w ≡ i * w + w = suc-mul i w in
+    ap row (part-first (i * w) w size area (omega arith))
+
+-- r rows of the area are in order where they are in order in them
+formed-first : (w r m size : ℕ) (area : List ℕ) → r * w ≤ size → formedRows w r m area ≡ formedRows w r m (take size area)
+unfolding formedRows
+formed-first w r m size area h =
+    every-same r (λ i. within (w * wordBits) (rowIn w area i) (λ k. ltb i m && ltb k m))
+    (λ i. within (w * wordBits) (rowIn w (take size area) i) (λ k. ltb i m && ltb k m))
+    (λ i l. ap (λ (f : Set). within (w * wordBits) f (λ k. ltb i m && ltb k m)) (row-first w r size area h i l))
+
+-- what follows n of them, with the rest after it
+drop-first : (n size : ℕ) (area : List ℕ) → n ≤ size → drop n (take size area) ++ drop size area ≡ drop n area
+drop-first zero size area h = take-append-drop size area
+drop-first (suc n) zero area h = absurd (omega arith)
+drop-first (suc n) (suc size) [] h = refl
+drop-first (suc n) (suc size) (x ∷ area) h = drop-first n size area (omega arith)
+
+-- an area begun within them has the rest after it
+begun-first : (size : ℕ) (xs old : List ℕ) → length xs ≤ size → begun xs old ≡ begun xs (take size old) ++ drop size old
+unfolding begun
+begun-first size xs old h =
+    ap (λ (t : List ℕ). xs ++ t) (sym (drop-first (length xs) size old h))
+    ∙ sym (append-assoc xs (drop (length xs) (take size old)) (drop size old))
+
+-- and so has one that is filled to their end
+filled-first : (size : ℕ) (xs old : List ℕ) → filled size xs old ≡ filled size xs (take size old) ++ drop size old
+unfolding filled
+filled-first size xs old =
+    let z : List ℕ = replicate (size - length xs) 0 in
+    sym (ap (λ (t : List ℕ). (xs ++ (z ++ t)) ++ drop size old) (slice-empty size old)
+    ∙ ap (λ (t : List ℕ). (xs ++ t) ++ drop size old) (append-nil z) ∙ append-assoc xs z (drop size old))
+
+-- a choice has the rest after it where the tests agree and each way out has
+pick-first : {A : Type 0} (rest : A → A) {a b : Bool} {x y x′ y′ : A}
+    → a ≡ b → (a ≡ true → x ≡ rest x′) → y ≡ rest y′ → pick a x y ≡ rest (pick b x′ y′)
+pick-first rest {a} {b} {x} {y} {x′} {y′} e p q =
+    either a (λ t. pick-true x y t ∙ p t ∙ ap rest (sym (pick-true x′ y′ (sym e ∙ t))))
+    (λ t. pick-false x y t ∙ q ∙ ap rest (sym (pick-false x′ y′ (sym e ∙ t))))
+
+-- The fold call.
+
+-- rows that are equal below m are folded alike
+unfold-rows : (m : ℕ) (f g : ℕ → Set) → ((i : ℕ) → i < m → f i ≡ g i) → (i : ℕ) → i < m → unfoldOnce m f i ≡ unfoldOnce m g i
+unfolding unfoldOnce
+unfold-rows m f g h i l =
+    fun-ext (λ a. exists-same m (λ j. f i j && f j a) (λ j. g i j && g j a)
+    (λ j b. ap₂ (λ (s t : Set). s j && t a) (h i l) (h j b)))
+
+unfolded-rows : (k m : ℕ) (f g : ℕ → Set) → ((i : ℕ) → i < m → f i ≡ g i) → (i : ℕ) → i < m → unfolded k m f i ≡ unfolded k m g i
+unfolding unfolded
+unfolded-rows zero m f g h = h
+unfolded-rows (suc k) m f g h = unfold-rows m (unfolded k m f) (unfolded k m g) (unfolded-rows k m f g h)
+
+-- the folded rows
+folded-first : (k m : ℕ) (all : List ℕ) → m ≤ atoms → foldedArea k m all ≡ foldedArea k m (take rowArea all) ++ drop rowArea all
+unfolding foldedArea
+folded-first k m all l =
+    let f : ℕ → Set = unfolded k m (rowIn rowWords all) in
+    let g : ℕ → Set = unfolded k m (rowIn rowWords (take rowArea all)) in
+    let same : (i : ℕ) → i < m → f i ≡ g i =
+    unfolded-rows k m (rowIn rowWords all) (rowIn rowWords (take rowArea all)) (row-first rowWords m rowArea all (omega arith))
+    in
+    begun-first rowArea (packed rowWords m f) all (omega (arith, length-packed rowWords m f))
+    ∙ ap (λ (ws : List ℕ). begun ws (take rowArea all) ++ drop rowArea all)
+    (packed-same rowWords m f g (λ i b a c. ap (λ (s : Set). s a) (same i b)))
+
+module _ (all spare : List ℕ) (m k : ℕ) where
+  fold-first : foldCall all spare m k ≡ foldWithRest all spare (foldCall (take rowArea all) (take rowArea spare) m k)
+  unfolding foldCall shortRows formedAll
+  fold-first =
+      let rest : FoldOutcome → FoldOutcome = foldWithRest all spare in
+      let refused : (n : ℕ) → foldRefusal n all spare ≡ rest (foldRefusal n (take rowArea all) (take rowArea spare)) =
+      λ n i. foldRefusal n (both-parts rowArea all i) (both-parts rowArea spare i)
+      in
+      pick-first rest (ap₂ _||_ (short-first rowArea all) (short-first rowArea spare)) (λ t. refused 1)
+      (pick-first rest refl (λ t. refused 9)
+      (pick-first rest (ap (λ (b : Bool). leb m atoms && b) (formed-first rowWords atoms m rowArea all (omega arith)))
+      (λ t.
+      let l : m ≤ atoms = all-formed all m t .0 in
+      λ i. record { number = 0; all = folded-first k m all l i; spare = filled-first rowArea [] spare i })
+      (refused 10)))
+
+-- The model area.
+
+-- the set in it
+model-first : (model : List ℕ) → modelIn model ≡ modelIn (take rowWords model)
+model-first model = ap row (part-first 0 rowWords rowWords model (omega arith))
+
+-- a set put into it
+with-model-first : (f : Set) (model : List ℕ) → withModel f model ≡ withModel f (take rowWords model) ++ drop rowWords model
+unfolding withModel
+with-model-first f model = begun-first rowWords (pack rowWords f) model (omega (arith, length-pack rowWords f))
+
+-- The rounds call.
+
+module _ (all any model : List ℕ) (m : ℕ) where
+  -- the system of the areas, and that of their first entries
+  abbrev s : System
+  s = systemIn all any model m
+
+  abbrev s′ : System
+  s′ = systemIn (take rowArea all) (take rowArea any) (take rowWords model) m
+
+  formed-system-first : formedSystem all any model m ≡ formedSystem (take rowArea all) (take rowArea any) (take rowWords model) m
+  unfolding formedSystem
+  formed-system-first =
+      ap (λ (b : Bool). leb m atoms && b)
+      (ap₂ _&&_ (formed-first rowWords atoms m rowArea all (omega arith))
+      (ap₂ _&&_ (formed-first rowWords atoms m rowArea any (omega arith))
+      (ap (λ (f : Set). within (rowWords * wordBits) f (λ k. ltb k m)) (model-first model))))
+
+  module _ (l : m ≤ atoms) where
+    -- they have the same start set
+    starts : Same m (s .start) (s′ .start)
+    starts i b = ap (λ (f : Set). f i) (model-first model)
+
+    -- and make the same rounds
+    agree : (v w : Set) → Same m v w → Same m (round s v) (round s′ w)
+    agree =
+        round-same s s′ refl (λ i b a c. ap (λ (f : Set). f a) (row-first rowWords m rowArea all (omega arith) i b))
+        (λ i b a c. ap (λ (f : Set). f a) (row-first rowWords m rowArea any (omega arith) i b))
+
+    kept-first : startKept s ≡ startKept s′
+    unfolding startKept
+    kept-first = within-same m (s .start) (s′ .start) (round s (s .start)) (round s′ (s′ .start)) starts (agree (s .start) (s′ .start) starts)
+
+    run-first : runOf s model ≡ roundsWithRest model (runOf s′ (take rowWords model))
+    unfolding runOf roundsOf heldBy
+    run-first =
+        let held : below m (heldBy s) ≡ below m (heldBy s′) =
+        below-same m (heldBy s) (heldBy s′) (reached-agree m (round s) (round s′) agree (s .start) (s′ .start) starts)
+        in
+        let last : withModel (below m (heldBy s)) model ≡ withModel (below m (heldBy s′)) (take rowWords model) ++ drop rowWords model =
+        ap (λ (f : Set). withModel f model) held ∙ with-model-first (below m (heldBy s′)) model
+        in
+        λ i. record {
+          number = 0;
+          rounds = rounds-agree m (round s) (round s′) agree (s .start) (s′ .start) starts i;
+          model = last i;
+        }
+
+  rounds-first : roundsCall all any model m ≡ roundsWithRest model (roundsCall (take rowArea all) (take rowArea any) (take rowWords model) m)
+  unfolding roundsCall shortSystem
+  rounds-first =
+      let rest : RoundsOutcome → RoundsOutcome = roundsWithRest model in
+      let refused : (n : ℕ) → roundsRefusal n model ≡ rest (roundsRefusal n (take rowWords model)) =
+      λ n i. roundsRefusal n (both-parts rowWords model i)
+      in
+      pick-first rest (ap₂ _||_ (short-first rowArea all) (ap₂ _||_ (short-first rowArea any) (short-first rowWords model)))
+      (λ t. refused 1)
+      (pick-first rest formed-system-first
+      (λ t.
+      let l : m ≤ atoms = in-order all any model m t .0 in
+      pick-first rest (kept-first l) (λ u. run-first l) (refused 11))
+      (refused 10))
+
+-- The standardise call.
+
+-- rules read from tables that agree where they are read
+rules-alike : (o o′ : Areas) (m : ℕ) → ((j : ℕ) → j < m → ruleAt o j ≡ ruleAt o′ j) → rulesFrom o m 0 ≡ rulesFrom o′ m 0
+rules-alike o o′ m h =
+    ext-getD blank (rulesFrom o m 0) (rulesFrom o′ m 0) (length-rulesFrom o m 0 ∙ sym (length-rulesFrom o′ m 0))
+    (λ j l.
+    let b : j < m = omega (arith, length-rulesFrom o m 0) in
+    getD-rulesFrom o m 0 j b ∙ h (0 + j) (omega arith) ∙ sym (getD-rulesFrom o′ m 0 j b))
+
+module _ (heads bodies : List ℕ) (n m : ℕ) where
+  body-first : (j : ℕ) → j < rules → rowIn bodyWords bodies j ≡ rowIn bodyWords (take bodyArea bodies) j
+  body-first = row-first bodyWords rules bodyArea bodies (omega arith)
+
+  entry-first : (j : ℕ) → j < rules → formedEntry heads bodies n m j ≡ formedEntry (take rules heads) (take bodyArea bodies) n m j
+  unfolding formedEntry
+  entry-first j l =
+      ap₂ (λ (x : ℕ) (f : Set). pick (ltb j m) (ltb x n && within (bodyWords * wordBits) f (λ a. ltb a n))
+      (eqb x 0 && not (exists (bodyWords * wordBits) f)))
+      (sym (getD-take rules heads j 0 l)) (body-first j l)
+
+  formed-tables-first : formedTables heads bodies n m ≡ formedTables (take rules heads) (take bodyArea bodies) n m
+  unfolding formedTables
+  formed-tables-first =
+      ap (λ (b : Bool). (leb n names && leb m rules) && b)
+      (every-same rules (formedEntry heads bodies n m) (formedEntry (take rules heads) (take bodyArea bodies) n m) entry-first)
+
+  program-first : m ≤ rules → programIn heads bodies n m ≡ programIn (take rules heads) (take bodyArea bodies) n m
+  unfolding ruleAt
+  program-first b =
+      ap (λ (rs : List (Rule ℕ)). record { names = n; rules = rs })
+      (rules-alike (rulesOnly heads bodies) (rulesOnly (take rules heads) (take bodyArea bodies)) m
+      (λ j l. ap₂ (λ (x : ℕ) (f : Set). record { head = x; body = f })
+      (sym (getD-take rules heads j 0 (le-trans l b))) (body-first j (le-trans l b))))
+
+module _ (o : RowAreas) where
+  refused-first : (k : ℕ) → standardRefusal k o ≡ standardWithRest o (standardRefusal k (statedRows o))
+  refused-first k i =
+      standardRefusal k (record {
+        all = both-parts rowArea (o .all) i;
+        any = both-parts rowArea (o .any) i;
+        model = both-parts rowWords (o .model) i;
+      })
+
+  rows-first : (p : Program) → standardRows p o ≡ rowsWithRest o (standardRows p (statedRows o))
+  unfolding standardRows
+  rows-first p i =
+      record {
+        all = filled-first rowArea (packed rowWords (standard p .atoms) (allRow p)) (o .all) i;
+        any = filled-first rowArea (packed rowWords (standard p .atoms) (anyRow p)) (o .any) i;
+        model = with-model-first (startSet p) (o .model) i;
+      }
+
+  standard-of-first : (p : Program) → standardOf p o ≡ standardWithRest o (standardOf p (statedRows o))
+  unfolding standardOf
+  standard-of-first p =
+      pick-first (standardWithRest o) refl (λ t. refused-first 8)
+      (λ i.
+      let r : StandardOutcome = standardWell p o in
+      record { number = 0; atoms = r .atoms; c = r .c; h = r .h; areas = rows-first p i })
+
+  module _ (heads bodies : List ℕ) (n m : ℕ) where
+    standard-first : standardCall heads bodies n m o
+        ≡ standardWithRest o (standardCall (take rules heads) (take bodyArea bodies) n m (statedRows o))
+    unfolding standardCall shortTables
+    standard-first =
+        let rest : StandardOutcome → StandardOutcome = standardWithRest o in
+        pick-first rest
+        (ap₂ _||_ (short-first rules heads)
+        (ap₂ _||_ (short-first bodyArea bodies)
+        (ap₂ _||_ (short-first rowArea (o .all)) (ap₂ _||_ (short-first rowArea (o .any)) (short-first rowWords (o .model))))))
+        (λ t. refused-first 1)
+        (pick-first rest (formed-tables-first heads bodies n m)
+        (λ t. standard-of-first (programIn heads bodies n m)
+        ∙ ap (λ (p : Program). rest (standardOf p (statedRows o))) (program-first heads bodies n m (formed-limits heads bodies n m t .1)))
+        (refused-first 10))
+
+-- the three calls
+pub stated-sizes : StatedSizes
+stated-sizes = record { fold = fold-first; rounds = rounds-first; standardise = λ heads bodies n m o. standard-first o heads bodies n m }

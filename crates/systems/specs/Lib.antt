@@ -1,0 +1,5 @@
+pub mod Rows
+pub mod Fold
+pub mod Rounds
+pub mod Standardise
+pub mod Claims

@@ -1,0 +1,63 @@
+-- The rounds call. Document 01: "Rounds start from the start set and stop at the first round that changes nothing. That last round is counted."
+-- Assumes nothing.
+use mathlib.Core.Bool.{Bool, _&&_, _||_}
+use mathlib.Core.List.{List}
+use Prim.Native.Nat.{ℕ, _*_}
+use lib.Dec.{leb, ltb}
+use lib.ListN.{length}
+use Rattle.limits.specs.Book.{atoms, wordBits, rowWords, rowArea}
+use Rattle.sets.specs.Set.{Set, pick, within, emptySet}
+use Rattle.words.specs.Row.{row, part, pack}
+use Rattle.program.specs.System.{System, round, roundsOf, heldBy}
+use Rattle.tables.specs.Begun.{begun}
+use Rattle.systems.specs.Rows.{rowIn, below, formedRows}
+
+-- the set in a model area
+abbrev pub modelIn : List ℕ → Set
+modelIn model = row (part 0 rowWords model)
+
+-- the model area with the set f in it
+unfoldable pub withModel : Set → List ℕ → List ℕ
+withModel f model = begun (pack rowWords f) model
+
+-- The system that rows, a start set and an atom count give. Which atoms c counts cannot be read off the rows.
+abbrev pub systemIn : List ℕ → List ℕ → List ℕ → ℕ → System
+systemIn all any model m =
+    record { atoms = m; all = rowIn rowWords all; any = rowIn rowWords any; start = modelIn model; counted = emptySet }
+
+-- what the call returns and leaves
+pub record RoundsOutcome : Type 0 where
+  pub number : ℕ
+  pub rounds : ℕ
+  pub model : List ℕ
+
+-- an area shorter than its stated size
+unfoldable pub shortSystem : List ℕ → List ℕ → List ℕ → Bool
+shortSystem all any model = ltb (length all) rowArea || (ltb (length any) rowArea || ltb (length model) rowWords)
+
+-- the count is within its limit, and neither a bit, of the start set too, nor a row lies at or past it
+unfoldable pub formedSystem : List ℕ → List ℕ → List ℕ → ℕ → Bool
+formedSystem all any model m =
+    leb m atoms
+    && (formedRows rowWords atoms m all
+    && (formedRows rowWords atoms m any && within (rowWords * wordBits) (modelIn model) (λ k. ltb k m)))
+
+-- no start atom is lost in round one
+unfoldable pub startKept : System → Bool
+startKept s = within (s .atoms) (s .start) (round s (s .start))
+
+-- a refusal leaves all as it was
+abbrev pub roundsRefusal : ℕ → List ℕ → RoundsOutcome
+roundsRefusal number model = record { number = number; rounds = 0; model = model }
+
+-- the rounds of a system, and the last set in the model area
+unfoldable pub runOf : System → List ℕ → RoundsOutcome
+runOf s model = record { number = 0; rounds = roundsOf s; model = withModel (below (s .atoms) (heldBy s)) model }
+
+-- areas too short, rows ill formed, a start atom lost; else the rounds
+unfoldable pub roundsCall : List ℕ → List ℕ → List ℕ → ℕ → RoundsOutcome
+roundsCall all any model m =
+    pick (shortSystem all any model) (roundsRefusal 1 model)
+    (pick (formedSystem all any model m)
+    (pick (startKept (systemIn all any model m)) (runOf (systemIn all any model m) model) (roundsRefusal 11 model))
+    (roundsRefusal 10 model))

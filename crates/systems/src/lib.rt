@@ -1,0 +1,1 @@
+// What the calls on tables and rows answer and leave: mathematics only.
