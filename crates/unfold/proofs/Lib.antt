@@ -1,0 +1,3 @@
+pub mod Uniting
+pub mod Turns
+pub mod Outcomes
