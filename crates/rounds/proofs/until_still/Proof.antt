@@ -1,0 +1,75 @@
+-- `rounds::until_still` meets its contract. The loop's invariant: `next` has the set after the model's, and the count is of the rounds
+-- that make it. The measure is what is left of the rounds' bound. Assumes nothing.
+use Rattle.rounds.proofs.Turns.{Turn, few, turn-begin, turn-less, turn-on, turn-count, turn-model, turn-next}
+use native.Mathlib.Omega.{arith}
+use Prim.Native.Nat.{_+_, _-_, _≤_}
+use mathlib.Core.Path.{_≡_}
+use lib.ListN.{length}
+use Rattle.limits.specs.Book.{atoms}
+use borrow.Author.Needs.{needs}
+use Rattle.rounds.proofs.until_still.Statement.{statement}
+use Rattle.rounds.proofs.until_still.Tie as tie
+
+abbrev Inv-loop : tie.InvT-loop
+Inv-loop all any model₀ next₀ m count₀ model next count =
+    (length model ≡ length model₀) × (length next ≡ length next₀) × (m ≤ atoms) × (count ≤ m + 1) × Turn all any model₀ next₀ m model next count
+
+abbrev μ-loop : tie.MeasureT-loop
+μ-loop all any model₀ next₀ m count₀ model next count = m + 1 - count
+
+loop-holds : tie.Need-loop-holds Inv-loop μ-loop
+loop-holds c =
+    let p = c .before .before .before .before .pre in
+    (search needs, search needs, few _ _ _ _ (p .formed), search needs, turn-begin _ _ _ _ _ p (c .before .slice-known .given))
+
+loop-less : tie.Need-loop-less Inv-loop μ-loop
+loop-less c =
+    let e = c .before .before .before .before .before .before .before .before .before .before .before in
+    let l = e .before .before .before in
+    let p = l .before .before .before .before .before .pre in
+    let t = c .before .before .before .before .before .before .before .before .before .before .if1 .taken in
+    omega (arith, turn-less _ _ _ _ _ p _ _ _ (l .loop .inv .4) _ (e .equal .ensures) t)
+
+loop-again : tie.Need-loop-again Inv-loop μ-loop
+loop-again c =
+    let u = c .before .before .before .before .before .before .before in
+    let e = u .before .before .before .before in
+    let l = e .before .before .before in
+    let p = l .before .before .before .before .before .pre in
+    let t = u .before .before .before .if1 .taken in (
+      search needs,
+      search needs,
+      l .loop .inv .2,
+      turn-less _ _ _ _ _ p _ _ _ (l .loop .inv .4) _ (e .equal .ensures) t,
+      turn-on _ _ _ _ _ p _ _ _ (l .loop .inv .4) _ _ _ (e .equal .ensures) t (u .copy .ensures)
+          (c .before .before .step .ensures),
+    )
+
+returns : tie.Need-returns Inv-loop μ-loop
+returns c =
+    let l = c .before .before .before .before in
+    let p = l .before .before .before .before .before .pre in
+    let e = c .before .equal .ensures in (
+      turn-count _ _ _ _ _ p _ _ _ (l .loop .inv .4) _ e (c .if1 .left),
+      (
+        turn-model _ _ _ _ _ p _ _ _ (l .loop .inv .4) _ e (c .if1 .left),
+        turn-next _ _ _ _ _ p _ _ _ (l .loop .inv .4) _ e (c .if1 .left),
+      ),
+    )
+
+pub until-still-spec : {M : Type 1} → statement M
+until-still-spec =
+    tie.close
+    (tie.spec
+    Inv-loop
+    μ-loop
+    loop-holds
+    (λ c κs. search needs)
+    (λ c κs. search needs)
+    (λ c κs. search needs)
+    (λ c. search needs)
+    loop-less
+    loop-again
+    (λ c. search needs)
+    (λ c. search needs)
+    returns)
