@@ -1,0 +1,4 @@
+pub mod Steps
+pub mod Overwriting
+pub mod Filling
+pub mod Calls

@@ -1,0 +1,54 @@
+-- What the first j rules have placed: the definitions of a program's rows and start set with the rule count replaced by j.
+-- Document 01: "helper: row is its rule's body; if empty, itself alone and in the start set."
+-- Assumes nothing.
+use mathlib.Core.Path.{_≡_}
+use mathlib.Core.Bool.{true, not, _&&_}
+use mathlib.Core.List.{List}
+use Prim.Native.Nat.{ℕ, _*_, _≤_}
+use lib.Dec.{eqb}
+use lib.ListN.{length}
+use Rattle.limits.specs.Book.{atoms, rules, rowWords, bodyWords, bodyArea, rowArea}
+use Rattle.sets.specs.Set.{Set, pick, exists, only, image, emptySet}
+use Rattle.words.specs.Row.{pack, put}
+use Rattle.program.specs.Program.{Program, headAt, bodyAt}
+use Rattle.program.specs.Standard.{several, helper, home, hasBody, standard}
+use Rattle.tables.specs.Areas.{programIn}
+use Rattle.tables.specs.Begun.{begun}
+use Rattle.systems.specs.Rows.{packed}
+use Rattle.systems.specs.Rounds.{withModel}
+use Rattle.systems.specs.Standardise.{formedTables}
+use Rattle.ways.specs.Ways.{severalNames}
+
+-- the "all" rows: a body where one of the first j rules has it, else the atom alone
+unfoldable pub allUpTo : Program → ℕ → ℕ → Set
+allUpTo p j i k = pick (image j (home p) (hasBody p) i) (image j (home p) (λ l. bodyAt p l k) i) (only i k)
+
+-- the "any" rows: the helpers among the first j rules
+unfoldable pub anyUpTo : Program → ℕ → ℕ → Set
+anyUpTo p j i k = exists j (λ l. several p l && (eqb (headAt p l) i && eqb (helper p l) k))
+
+-- the start set: the homes of those of the first j rules that have no body
+unfoldable pub startUpTo : Program → ℕ → Set
+startUpTo p j = image j (home p) (λ l. not (hasBody p l))
+
+-- the area with f as row i
+abbrev pub withRow : ℕ → Set → List ℕ → List ℕ
+withRow i f area = put (i * rowWords) (pack rowWords f) area
+
+-- the area with these rows for the atoms of a program
+abbrev pub withRows : Program → (ℕ → Set) → List ℕ → List ℕ
+withRows p rows area = begun (packed rowWords (standard p .atoms) rows) area
+
+-- Tables in order, with the names that have several rules marked, and the rows before any rule is placed.
+pub record Ready (heads bodies marked : List ℕ) (n m : ℕ) (all any model : List ℕ) : Type 0 where
+  pub formed : formedTables heads bodies n m ≡ true
+  pub few : standard (programIn heads bodies n m) .atoms ≤ atoms
+  pub heads-long : rules ≤ length heads
+  pub bodies-long : bodyArea ≤ length bodies
+  pub all-long : rowArea ≤ length all
+  pub any-long : rowArea ≤ length any
+  pub model-long : rowWords ≤ length model
+  pub marks : marked ≡ pack bodyWords (severalNames heads m)
+  pub all-rows : all ≡ withRows (programIn heads bodies n m) only all
+  pub any-rows : any ≡ withRows (programIn heads bodies n m) (λ i. emptySet) any
+  pub start-row : model ≡ withModel emptySet model
