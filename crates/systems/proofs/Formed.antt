@@ -57,14 +57,6 @@ pub unfold-make : (m : ℕ) (rows : ℕ → Set) (i j k : ℕ) → j < m → row
 unfolding unfoldOnce
 unfold-make m rows i j k l p q = exists-make m (λ j. rows i j && rows j k) j l (and-make p q)
 
--- a fold over more rows than have members
-pub unfold-fewer : (n m : ℕ) (rows : ℕ → Set) → m ≤ n → Below n m rows
-    → (i k : ℕ) → i < n → unfoldOnce n rows i k ≡ unfoldOnce m rows i k
-unfold-fewer n m rows b h i k l =
-    iff (unfoldOnce n rows i k) (unfoldOnce m rows i k)
-    (λ e. let q = unfold-find n rows i k e in unfold-make m rows i (q .0) k (h i (q .0) l (q .2) .1) (q .2) (q .3))
-    (λ e. let q = unfold-find m rows i k e in unfold-make n rows i (q .0) k (le-trans (q .1) b) (q .2) (q .3))
-
 -- folded rows stay below the count
 pub unfold-in : (n m : ℕ) (rows : ℕ → Set) → m ≤ n → Below n m rows → Below n m (unfoldOnce m rows)
 unfold-in n m rows b h i k l e =

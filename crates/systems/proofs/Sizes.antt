@@ -28,7 +28,7 @@ use Rattle.systems.specs.Rows.{rowIn, packed, below, formedRows}
 use Rattle.systems.specs.Fold.{FoldOutcome, shortRows, formedAll, foldRefusal, foldedArea, foldCall}
 use Rattle.systems.specs.Rounds.{RoundsOutcome, modelIn, withModel, systemIn, shortSystem, formedSystem, startKept, roundsRefusal, runOf, roundsCall}
 use Rattle.systems.specs.Standardise.{RowAreas, StandardOutcome, shortTables, formedEntry, formedTables, standardRefusal, standardRows, standardOf, standardCall}
-use Rattle.systems.specs.Claims.{foldWithRest, roundsWithRest, statedRows, rowsWithRest, standardWithRest, StatedSizes}
+use Rattle.systems.specs.Sizes.{foldWithRest, roundsWithRest, statedRows, rowsWithRest, standardWithRest, StatedSizes}
 use Rattle.systems.proofs.Packed.{length-packed, packed-same}
 use Rattle.systems.proofs.Formed.{round-same}
 use Rattle.systems.proofs.Bridge.{formed-limits}
