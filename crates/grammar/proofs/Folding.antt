@@ -1,7 +1,7 @@
 -- Document 01's folding keeps the rule of a folding: computed over all byte values, and 0 past them.
 -- Assumes nothing.
 use mathlib.Core.Path.{_≡_, refl, sym, ap, _∙_}
-use mathlib.Core.Bool.{Bool, true, false, not, _&&_, _||_}
+use mathlib.Core.Bool.{Bool, true, false, not, _&&_, _||_, and-false}
 use Prim.Native.Nat.{ℕ, _≤_, _<_}
 use native.Mathlib.Omega.{arith}
 use lib.Dec.{eqb, leb, ltb}
@@ -22,11 +22,7 @@ all-settled = refl
 
 -- no byte past a range lies in it
 beyond : (lo hi b : ℕ) → hi < b → from-to lo hi b ≡ false
-beyond lo hi b l = ap (λ (x : Bool). leb lo b && x) (lt-leb b hi l) ∙ none (leb lo b)
-  where
-    none : (a : Bool) → a && false ≡ false
-    none true = refl
-    none false = refl
+beyond lo hi b l = ap (λ (x : Bool). leb lo b && x) (lt-leb b hi l) ∙ and-false (leb lo b)
 
 -- past the bytes the entry is 0
 past-bytes : (b : ℕ) → 256 ≤ b → folded b ≡ 0

@@ -2,17 +2,11 @@
 -- Assumes nothing.
 use mathlib.Core.Path.{_≡_, refl}
 use mathlib.Core.List.{List, [], _∷_, map}
-use Prim.Native.Char.{code}
-use Prim.Native.String.{String, [] as empty, _∷_ as _then_}
+use Prim.Native.String.{String}
 use Rattle.sets.specs.Set.{pick}
-use Rattle.grammar.specs.Bytes.{Bytes, blank, small, folded, nameByte, allOf}
+use Rattle.grammar.specs.Bytes.{bytes, blank, small, folded, nameByte, allOf}
 use Rattle.grammar.specs.Grammar.{Form, silent, rule, fault}
 use Rattle.grammar.specs.Lines.{span, grown, goesOn, wordsOf, isName, allNames, fromColon, fromHead, starts, formOf}
-
--- the bytes of a text
-abbrev pub bytes : String → Bytes
-bytes empty = []
-bytes (c then s) = code c ∷ bytes s
 
 -- the rule of a head and a body in small letters
 abbrev says : String → List String → Form

@@ -2,13 +2,21 @@
 -- Assumes nothing.
 use mathlib.Core.Path.{_≡_}
 use mathlib.Core.Bool.{Bool, true, not, _&&_, _||_}
+use mathlib.Core.Logic.{_⊎_}
 use mathlib.Core.List.{List, [], _∷_}
 use Prim.Native.Nat.{ℕ, _+_, _<_}
+use Prim.Native.Char.{code}
+use Prim.Native.String.{String, [] as empty, _∷_ as _then_}
 use lib.Dec.{eqb, leb}
 use Rattle.sets.specs.Set.{pick}
 
 abbrev pub Bytes : Type 0
 Bytes = List ℕ
+
+-- the bytes of a text in quotes
+abbrev pub bytes : String → Bytes
+bytes empty = []
+bytes (c then s) = code c ∷ bytes s
 
 -- the byte that ends a line
 abbrev pub lineEnd : ℕ
@@ -64,3 +72,8 @@ nameByte fold b = not (eqb (fold b) 0)
 unfoldable pub allOf : (ℕ → Bool) → Bytes → Bool
 allOf p [] = true
 allOf p (b ∷ s) = p b && allOf p s
+
+-- x is one of xs
+unfoldable pub Among : Bytes → List Bytes → Type 0
+Among x [] = ⊥
+Among x (y ∷ ys) = (y ≡ x) ⊎ Among x ys

@@ -49,17 +49,17 @@ area-new ns w area e = pick-false area (put (length ns * nameBytes) (padded w) a
 -- when nothing changes and when the word is new
 module _ (ns : List Bytes) (w : Bytes) where
   -- w is a name
-  settled-name : place ns w < length ns → settled ns w ≡ true
+  pub settled-name : place ns w < length ns → settled ns w ≡ true
   unfolding settled
   settled-name l = or-left (leb names (length ns)) (lt-ltb (place ns w) (length ns) l)
 
   -- there is no room
-  settled-full : names ≤ length ns → settled ns w ≡ true
+  pub settled-full : names ≤ length ns → settled ns w ≡ true
   unfolding settled
   settled-full l = or-right (ltb (place ns w) (length ns)) (le-leb names (length ns) l)
 
   -- w is new and there is room
-  settled-new : length ns ≤ place ns w → length ns < names → settled ns w ≡ false
+  pub settled-new : length ns ≤ place ns w → length ns < names → settled ns w ≡ false
   unfolding settled
   settled-new l m = rw (le-ltb (place ns w) (length ns) l, lt-leb names (length ns) m)
 

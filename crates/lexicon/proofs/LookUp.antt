@@ -1,7 +1,7 @@
 -- The look-up's walk over a name's row, and the part that it hands back.
 -- Assumes nothing.
-use mathlib.Core.Path.{_≡_, refl, sym, ap, _∙_}
-use mathlib.Core.Bool.{Bool, true, false, not, _&&_}
+use mathlib.Core.Path.{_≡_, sym, ap, _∙_}
+use mathlib.Core.Bool.{Bool, true, false, not, _&&_, and-false}
 use mathlib.Core.List.{[]}
 use Prim.Native.Nat.{ℕ, _+_, _-_, _*_, _<_, _≤_}
 use native.Mathlib.Omega.{arith}
@@ -78,11 +78,6 @@ module _ (area : Bytes) (n a row : ℕ) (k : Known area n a row) where
   pub lies : (o : ℕ) → row + o ≡ o + lookUpAt area n a
   unfolding lookUpAt
   lies o = let e : lookUpAt area n a ≡ a * nameBytes = pick-true _ _ is-known in omega arith
-
--- a test beside one that fails
-and-false : (x : Bool) → x && false ≡ false
-and-false true = refl
-and-false false = refl
 
 module _ (area : Bytes) (n a : ℕ) where
   -- the ways in which it fails

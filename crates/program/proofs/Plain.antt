@@ -3,16 +3,15 @@
 use mathlib.Core.Path.{_≡_, refl, subst}
 use mathlib.Core.Logic.{_↔_}
 use mathlib.Core.Bool.{Bool, true, _&&_}
-use Prim.Native.Nat.{ℕ, suc, _≤_, _<_, _+_}
-use native.Mathlib.Omega.{arith}
+use Prim.Native.Nat.{ℕ, _≤_, _<_, _+_}
 use lib.Dec.{eqb}
 use borrow.Author.Tests.{eqb-true, eq-eqb}
-use Rattle.sets.specs.Set.{Set, Within, count, within, emptySet}
-use Rattle.sets.specs.Steps.{Monotone, Closed, Least, rounds}
-use Rattle.sets.proofs.Logic.{clash, and-left, and-right, and-make, or-right}
+use Rattle.sets.specs.Set.{Set, Within, within, emptySet}
+use Rattle.sets.specs.Steps.{Monotone, Closed, Least}
+use Rattle.sets.proofs.Logic.{clash, and-left, and-right, and-make}
 use Rattle.sets.proofs.Tests.{exists-make, exists-find, within-at, within-make}
-use Rattle.sets.proofs.Counting.{count-le}
-use Rattle.sets.proofs.Rounds.{reached-least, rounds-join}
+use Rattle.sets.proofs.Rounds.{reached-least}
+use Rattle.sets.proofs.Running.{rounds-few}
 use Rattle.program.specs.Program.{Program, WellFormed, Model, InEveryModel, size, headAt, bodyAt, consequence, plainRounds, plainHeld}
 
 module _ (p : Program) where
@@ -69,10 +68,4 @@ module _ (p : Program) where
   -- in at most n + 1 rounds
   pub plain-bound : plainRounds p ≤ n + 1
   unfolding plainRounds
-  plain-bound =
-      let all : Set = λ i. true in
-      let b : count n all ≤ n = count-le n all in
-      let r : rounds n (consequence p) emptySet ≤ suc (count n all) =
-      rounds-join n (consequence p) emptySet consequence-mono (λ i l e. clash e refl) all (λ t i l e. or-right (emptySet i) refl)
-      in
-      omega arith
+  plain-bound = rounds-few n (consequence p) emptySet consequence-mono (λ i l e. clash e refl)

@@ -4,11 +4,11 @@ use mathlib.Core.Path.{_≡_, refl, sym, ap, ap₂, _∙_, subst}
 use mathlib.Core.Bool.{true, false}
 use mathlib.Core.Logic.{_⊎_, ⊎-elim}
 use mathlib.Core.List.{List, [], _++_, map}
-use Prim.Native.Nat.{ℕ, _+_, _-_, _*_, _≤_, _<_}
+use Prim.Native.Nat.{ℕ, _-_, _*_, _≤_, _<_}
 use native.Mathlib.Omega.{arith}
 use lib.Dec.{eqb, ltb}
 use lib.ListN.{length, take, drop, replicate, length-map}
-use borrow.Author.Tests.{lt-ltb, le-ltb, eqb-true, eqb-false, ne-eqb}
+use borrow.Author.Tests.{lt-ltb, eqb-true, eqb-false, ne-eqb}
 use Rattle.limits.specs.Book.{textBytes, names, nameBytes, rules, nameArea, bodyWords, bodyArea}
 use Rattle.sets.proofs.Logic.{either, or-left, or-right, pick-true, pick-false}
 use Rattle.grammar.specs.Bytes.{Bytes, folded}
@@ -20,10 +20,10 @@ use Rattle.tables.specs.Areas.{Areas, Outcome, filled, nameRows, headRows, body
 use Rattle.tables.specs.Begun.{begun}
 use Rattle.tables.proofs.Numbering.{names-none, heads-length, bodies-length}
 use Rattle.tables.proofs.Judging.{book-lines, book-unended, book-unmarked, reading-long, reading-short}
-use Rattle.tables.proofs.Encoding.{begun-none, used, length-nameRows}
+use Rattle.tables.proofs.Encoding.{begun-none, used, length-nameRows, not-short}
 use Rattle.rows.specs.Clear.{cleared}
 use Rattle.lexicon.proofs.Entering.{indexed-none}
-use Rattle.reader.specs.Tables.{Named}
+use Rattle.clause.specs.Tables.{Named}
 use Rattle.reader.specs.declared.Answer.{Answer}
 use Rattle.reader.specs.State.{Booked, Stayed, Lined, allLines}
 
@@ -64,14 +64,10 @@ module _ (t area : Bytes) (heads bodies : List ℕ) where
 
   -- long enough
   module _ (la : nameArea ≤ length area) (lh : rules ≤ length heads) (lb : bodyArea ≤ length bodies) where
-    not-short : short (lent area heads bodies) ≡ false
-    unfolding short
-    not-short = rw (le-ltb (length area) nameArea la, le-ltb (length heads) rules lh, le-ltb (length bodies) bodyArea lb)
-
     call-is : (x : Reading) → reading folded t ≡ x → readCall folded t (lent area heads bodies) ≡ outcome x (lent area heads bodies)
     unfolding readCall
     call-is x e =
-        pick-false (refusal 1 0 (lent area heads bodies)) (outcome (reading folded t) (lent area heads bodies)) not-short
+        pick-false (refusal 1 0 (lent area heads bodies)) (outcome (reading folded t) (lent area heads bodies)) (not-short (lent area heads bodies) la lh lb)
         ∙ ap (λ (y : Reading). outcome y (lent area heads bodies)) e
 
     -- refused before any line

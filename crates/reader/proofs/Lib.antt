@@ -1,11 +1,4 @@
-pub mod Places
-pub mod Forms
-pub mod Rows
-pub mod Meeting
-pub mod Joining
-pub mod Heading
-pub mod Passing
-pub mod Saying
+pub mod Silent
 pub mod Stepping
 pub mod Marking
 pub mod Lining

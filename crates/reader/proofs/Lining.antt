@@ -16,9 +16,9 @@ use Rattle.grammar.proofs.Cutting as cut
 use Rattle.tables.specs.Reading.{refused, taken, readLines, marked, ended}
 use Rattle.tables.proofs.Judging.{marked-find, ended-find}
 use Rattle.tables.proofs.Loop.{read-end, read-on, read-stop}
-use Rattle.reader.specs.Line.{Closed, lineAt, formAt, pastAt}
-use Rattle.reader.proofs.Rows.{kept-on}
-use Rattle.reader.specs.State.{Booked, Stayed, Stepped, Lined, allLines}
+use Rattle.clause.specs.Line.{Closed, lineAt, pastAt}
+use Rattle.clause.proofs.Rows.{kept-on}
+use Rattle.reader.specs.State.{Booked, Stayed, Stepped, Lined, allLines, formAt}
 use Rattle.reader.proofs.Stepping.{stayed-same}
 
 -- one change after another

@@ -23,13 +23,14 @@ use Rattle.tables.specs.Begun.{begun}
 use Rattle.tables.proofs.Numbering.{names-more, numbered-more, heads-append, bodies-append, heads-length, bodies-length}
 use Rattle.tables.proofs.Loop.{cause-rules, cause-names, cause-none}
 use Rattle.tables.proofs.Encoding.{put-begun}
-use Rattle.reader.specs.Line.{Closed, formAt, headAt, pastAt, unblank, isRule}
-use Rattle.reader.proofs.Forms.{headed, headed-end, not-silent, closed-unblank, end-unblank}
-use Rattle.reader.proofs.Places.{end-here}
-use Rattle.reader.specs.Tables.{Kept, Named, Ruled, Said, namesWith}
-use Rattle.reader.proofs.Rows.{kept-same}
-use Rattle.reader.proofs.Meeting.{begun-again}
-use Rattle.reader.specs.State.{Booked, Stayed, Stepped}
+use Rattle.clause.specs.Line.{Closed, headAt, pastAt, unblank, isRule}
+use Rattle.clause.proofs.Forms.{closed-unblank, end-unblank}
+use Rattle.clause.proofs.Places.{end-here}
+use Rattle.clause.specs.Tables.{Kept, Named, Ruled, Said, namesWith}
+use Rattle.clause.proofs.Rows.{kept-same}
+use Rattle.clause.proofs.Meeting.{begun-again}
+use Rattle.reader.specs.State.{Booked, Stayed, Stepped, formAt}
+use Rattle.reader.proofs.Silent.{headed, headed-end, not-silent}
 
 -- nothing changed
 pub stayed-same : (area : Bytes) (heads bodies : List ℕ) → Stayed area area heads heads bodies bodies

@@ -6,14 +6,18 @@ use Prim.Native.Nat.{ℕ, _≤_}
 use lib.ListN.{length, drop}
 use Rattle.limits.specs.Book.{rules, nameArea, bodyArea}
 use Rattle.grammar.specs.Bytes.{Bytes, notEnd, folded}
-use Rattle.grammar.specs.Grammar.{Clause, mark}
-use Rattle.grammar.specs.Lines.{lines}
+use Rattle.grammar.specs.Grammar.{Clause, Form, mark}
+use Rattle.grammar.specs.Lines.{lines, formOf}
 use Rattle.tables.specs.Numbering.{namesOf, numbered}
 use Rattle.tables.specs.Reading.{Reading, read, refused, lineCause, taken, readLines}
 use Rattle.tables.specs.Areas.{headRows, bodyRows}
 use Rattle.tables.specs.Begun.{begun}
-use Rattle.reader.specs.Line.{formAt, pastAt}
-use Rattle.reader.specs.Tables.{Kept, Named}
+use Rattle.clause.specs.Line.{lineAt, pastAt}
+use Rattle.clause.specs.Tables.{Kept, Named}
+
+-- the form of the line at place i
+abbrev pub formAt : Bytes → ℕ → Form
+formAt t i = formOf folded (lineAt t i)
 
 -- the tables hold the clauses cs: n names with their index, and m rules
 pub record Booked (cs : List Clause) (n m : ℕ) (area : Bytes) (first prior heads bodies : List ℕ) : Type 0 where

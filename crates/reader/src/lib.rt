@@ -1,6 +1,4 @@
 // The public call that reads a book into its tables, in one pass over the text.
-mod clause;
-
 use clause::rule;
 use limits::Book;
 use limits::Refusal;
@@ -22,7 +20,7 @@ ghost use Rattle.grammar.specs.Grammar.{Clause};
 ghost use Rattle.scan.specs.Fold.{FoldTable};
 ghost use Rattle.tables.specs.Reading.{marked, ended};
 ghost use Rattle.tables.specs.Areas.{readCall};
-ghost use Rattle.reader.specs.Line.{Closed};
+ghost use Rattle.clause.specs.Line.{Closed};
 ghost use Rattle.reader.specs.State.{Booked, Stayed, Stepped, Lined};
 
 // What a call returns: the number of the refusal with its line, 0 for none, and how many names and rules there are.

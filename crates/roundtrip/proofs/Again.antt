@@ -1,8 +1,8 @@
 -- The tables of a book that was read are in order, and their written text is no longer than the text read.
 -- Assumes nothing.
-use mathlib.Core.Path.{_≡_, refl, sym, ap, ap₂, subst, _∙_}
+use mathlib.Core.Path.{_≡_, sym, ap, ap₂, subst, _∙_}
 use mathlib.Core.Bool.{true, not}
-use mathlib.Core.List.{List, [], _∷_, _++_, map}
+use mathlib.Core.List.{List, [], _++_, map}
 use Prim.Native.Nat.{ℕ, _-_, _*_, _≤_, _<_}
 use native.Mathlib.Omega.{arith}
 use lib.Dec.{eqb}
@@ -11,36 +11,28 @@ use lib.Seq.{drop-append-seam}
 use borrow.Author.Tests.{le-leb, eq-eqb}
 use Rattle.limits.specs.Book.{names, nameBytes, rules, bodyWords, nameArea, bodyArea}
 use Rattle.sets.specs.Set.{every}
-use Rattle.sets.proofs.Logic.{and-left, and-right, and-make, not-true, not-of-false}
+use Rattle.sets.proofs.Logic.{and-make, not-true, not-of-false}
 use Rattle.sets.proofs.Tests.{every-make}
 use Rattle.words.specs.Row.{part}
-use Rattle.program.specs.Program.{Rule, blank}
-use Rattle.grammar.specs.Bytes.{Bytes, Folding, allOf}
+use Rattle.program.specs.Program.{Rule}
+use Rattle.grammar.specs.Bytes.{Bytes, Folding, allOf, Among}
 use Rattle.grammar.specs.Grammar.{Clause}
-use Rattle.tables.specs.Numbering.{sameBytes, place, standing, namesOf, numbered, programOf}
+use Rattle.tables.specs.Numbering.{sameBytes, place, standing, namesOf, numbered}
 use Rattle.tables.specs.Reading.{Fits, Book, bookOf, read}
-use Rattle.tables.specs.Areas.{Areas, filled, filledWith, padded, nameRows, headRows, bodyRows, tablesOf, nonzero, nameAt, namesIn, rulesIn}
+use Rattle.tables.specs.Areas.{Areas, filled, filledWith, padded, nameRows, headRows, bodyRows, tablesOf, nameAt, namesIn, rulesIn}
 use Rattle.tables.specs.Writing.{own, zeroFrom, goodName, different, numbersIn, orderly, metIn, wellFormed, written, Readable}
-use Rattle.tables.specs.Claims.{Among, Judged}
-use Rattle.tables.proofs.Numbering.{Distinct, same-bytes-eq, names-distinct, names-from, heads-length, bodies-length, numbers}
-use Rattle.tables.proofs.Encoding.{AllFine, Low, length-nameRows, part-nameRows, name-at, names-filled, rules-filled, zero-all, zero-filled}
-use Rattle.tables.proofs.Good.{Good, saying-good}
+use Rattle.tables.specs.Claims.{Judged}
+use Rattle.tables.proofs.Numbering.{Distinct, same-bytes-eq, names-distinct, names-from, heads-length, bodies-length, book-low}
+use Rattle.tables.proofs.Encoding.{AllFine, length-nameRows, part-nameRows, name-at, names-filled, rules-filled, zero-all, zero-filled}
+use Rattle.tables.proofs.Good.{Good, good-fine, saying-good}
 use Rattle.roundtrip.specs.Claims.{textOf}
 use Rattle.roundtrip.proofs.Walks.{book-met}
 use Rattle.roundtrip.proofs.Shorter.{written-shorter}
 
 module _ (fold : ℕ → ℕ) where
-  -- no byte of a folded name is zero
-  own-nonzero : (s : Bytes) → allOf (own fold) s ≡ true → allOf nonzero s ≡ true
-  unfolding allOf own
-  own-nonzero [] e = refl
-  own-nonzero (b ∷ s) e =
-      and-make (and-left (nonzero b) (eqb (fold b) b) (and-left (own fold b) (allOf (own fold) s) e))
-      (own-nonzero s (and-right (own fold b) (allOf (own fold) s) e))
-
   module _ (ns : List Bytes) (good : (a : ℕ) → a < length ns → Good fold (getD ns a [])) where
     fine : AllFine ns
-    fine a l = (good a l .fits, own-nonzero (getD ns a []) (good a l .bytes))
+    fine = good-fine fold ns good
 
     -- the rows of good names are good
     good-row : (old : List ℕ) (a : ℕ) → a < length ns → goodName fold (filled nameArea (nameRows ns) old) a ≡ true
@@ -93,13 +85,6 @@ module _ (fold : ℕ → ℕ) where
     good-at : (a : ℕ) → a < length (namesOf cs) → Good fold (getD (namesOf cs) a [])
     good-at a l = good (getD (namesOf cs) a []) (names-from cs a l)
 
-    -- no body of the book has a member at or past 128
-    low : Low (map (numbered (namesOf cs)) cs)
-    unfolding programOf
-    low j a l h =
-        not-true (getD (map (numbered (namesOf cs)) cs) j blank .body a)
-        (λ e. omega (arith, numbers cs .formed .bodies j a l e, fits .names-fit))
-
     -- the names and the rules of its tables are those of the book
     pub names-back : namesIn (tablesOf cs old .spellings) (length (namesOf cs)) ≡ namesOf cs
     unfolding tablesOf filledWith
@@ -110,7 +95,7 @@ module _ (fold : ℕ → ℕ) where
     rules-back =
         let rs : List (Rule ℕ) = map (numbered (namesOf cs)) cs in
         ap (rulesIn (filledWith (namesOf cs) rs old)) (sym (length-map cs (numbered (namesOf cs))))
-        ∙ rules-filled (namesOf cs) rs old low
+        ∙ rules-filled (namesOf cs) rs old (book-low cs (fits .names-fit))
 
     -- its tables are in order
     pub in-order : wellFormed fold (tablesOf cs old) (length (namesOf cs)) (length cs) ≡ true

@@ -1,26 +1,25 @@
 -- Tables in order: their written text is a book, and that book's tables are they.
 -- Assumes nothing.
 use mathlib.Core.Path.{_≡_, refl, sym, ap, _∙_, subst}
-use mathlib.Core.Bool.{Bool, true, false, not, _&&_, _||_}
+use mathlib.Core.Bool.{Bool, true, false, not, _&&_}
 use mathlib.Core.List.{List, [], _∷_, map}
 use Prim.Native.Nat.{ℕ, zero, suc, _+_, _*_, _≤_, _<_}
 use native.Mathlib.Omega.{arith}
-use lib.Dec.{eqb, leb, ltb}
-use lib.ListN.{length, getD, take, drop, length-take, length-map}
+use lib.Dec.{eqb, leb}
+use lib.ListN.{length, getD, take, drop, length-map}
 use lib.Seq.{length-take-le}
-use borrow.Author.Tests.{ltb-false, leb-true, eqb-true}
+use borrow.Author.Tests.{leb-true, eqb-true}
 use Rattle.limits.specs.Book.{names, nameBytes, rules, bodyWords, nameArea, bodyArea}
 use Rattle.sets.specs.Set.{every}
-use Rattle.sets.proofs.Logic.{clash, not-true, and-left, and-right, or-left, or-right, of-not}
+use Rattle.sets.proofs.Logic.{clash, not-true, and-left, and-right, of-not}
 use Rattle.sets.proofs.Tests.{every-at}
 use Rattle.words.specs.Row.{part}
 use Rattle.program.specs.Program.{Rule}
 use Rattle.grammar.specs.Bytes.{Bytes, Folding, allOf}
 use Rattle.grammar.specs.Grammar.{Clause}
-use Rattle.grammar.specs.Lines.{span}
 use Rattle.tables.specs.Numbering.{sameBytes, place, namesOf, numbered}
 use Rattle.tables.specs.Reading.{Book}
-use Rattle.tables.specs.Areas.{Areas, short, filled, nameRows, headRows, bodyRows, filledWith, tablesOf, nonzero, nameAt, namesIn, rulesIn}
+use Rattle.tables.specs.Areas.{Areas, filled, nameRows, headRows, bodyRows, filledWith, tablesOf, nameAt, namesIn, rulesIn}
 use Rattle.tables.specs.Writing.{own, zeroFrom, goodName, different, numbersIn, orderly, metIn, wellFormed}
 use Rattle.tables.proofs.Numbering.{Distinct, same-bytes-eq, same-bytes-refl, place-here, place-on}
 use Rattle.tables.proofs.Good.{Good}
@@ -33,6 +32,8 @@ use Rattle.tables.proofs.Encoding.{
   heads-rules,
   bodies-rules,
   rules-low,
+  name-fits,
+  long-enough,
   filled-same,
 }
 use Rattle.roundtrip.specs.Claims.{Lent, textOf}
@@ -82,13 +83,6 @@ formed fold o n m e =
       all-met = eqb-true (metIn 0 (numbersIn (rulesIn o m))) n (and-right i j order);
     }
 
--- a name is no longer than its row
-row-fits : (area : Bytes) (a : ℕ) → length (nameAt area a) ≤ nameBytes
-unfolding nameAt
-row-fits area a =
-    let r : List ℕ = part (a * nameBytes) nameBytes area in
-    omega (arith, length-take (span nonzero r) r, length-take nameBytes (drop (a * nameBytes) area))
-
 -- a row in order holds a folded name
 row-good : (fold : ℕ → ℕ) (area : Bytes) (a : ℕ) → goodName fold area a ≡ true → Good fold (nameAt area a) × Tidy area a
 unfolding goodName
@@ -99,7 +93,7 @@ row-good fold area a e =
     let z : Bool = allOf (λ (b : ℕ). eqb b 0) (drop (length s) (part (a * nameBytes) nameBytes area)) in (
       record {
         some = leb-true 1 (length s) (and-left x (y && z) e);
-        fits = row-fits area a;
+        fits = name-fits area a;
         bytes = and-left y z (and-right x (y && z) e);
       },
       and-right y z (and-right x (y && z) e),
@@ -201,16 +195,7 @@ module _ (fold : ℕ → ℕ) (folding : Folding fold) (o : Areas) (n m : ℕ) (
 
   -- the areas are of their sizes
   roomy : (nameArea ≤ length (o .spellings)) × (rules ≤ length (o .heads)) × (bodyArea ≤ length (o .bodies))
-  unfolding short
-  roomy =
-      let a : Bool = ltb (length (o .spellings)) nameArea in
-      let b : Bool = ltb (length (o .heads)) rules in
-      let c : Bool = ltb (length (o .bodies)) bodyArea in
-      let s : a || (b || c) ≡ false = lent .0 in (
-        ltb-false (length (o .spellings)) nameArea (not-true a (λ e. clash (or-left (b || c) e) s)),
-        ltb-false (length (o .heads)) rules (not-true b (λ e. clash (or-right a (or-left c e)) s)),
-        ltb-false (length (o .bodies)) bodyArea (not-true c (λ e. clash (or-right a (or-right b e)) s)),
-      )
+  roomy = long-enough o (lent .0)
 
   -- so filling them with their own names and rules changes nothing
   filled-back : filledWith ns rs o ≡ o

@@ -10,7 +10,7 @@ use lib.ListN.{length, take, drop, replicate, length-append, length-replicate, l
 use lib.Seq.{take-at, take-append-seam}
 use borrow.Author.Tests.{ltb-false, le-ltb}
 use Rattle.limits.specs.Book.{textBytes, nameBytes, rules, bodyWords, nameArea, bodyArea}
-use Rattle.sets.proofs.Logic.{either, clash, not-true, or-left, or-right, pick-true, pick-false}
+use Rattle.sets.proofs.Logic.{either, clash, not-true, or-left, pick-true, pick-false}
 use Rattle.words.specs.Row.{Words, pack}
 use Rattle.words.proofs.Rows.{words-pack}
 use Rattle.words.proofs.Areas.{words-append, words-drop}
@@ -24,7 +24,7 @@ use Rattle.tables.specs.Areas.{Areas, short, filled, filledWith, nameRows, head
 use Rattle.tables.specs.Writing.{Readable, Written, wellFormed, placed, writeCall}
 use Rattle.tables.specs.Claims.{accepted}
 use Rattle.tables.proofs.Numbering.{heads-length, bodies-length}
-use Rattle.tables.proofs.Encoding.{length-nameRows, length-filled}
+use Rattle.tables.proofs.Encoding.{length-nameRows, length-filled, long-enough, not-short}
 use Rattle.tables.proofs.Theorems.{judged, read-calls, read-fits, read-good-at}
 use Rattle.roundtrip.specs.Claims.{textOf, ReadsTo, Lent, over, wrote, WriteCalls}
 use Rattle.roundtrip.proofs.Theorems.{round-trip}
@@ -82,17 +82,13 @@ over-filled size xs mine old h e =
 -- areas keep their lengths when filled
 still-long : (ns : List Bytes) (rs : List (Rule ℕ)) (old : Areas) → length (nameRows ns) ≤ nameArea → length (headRows rs) ≤ rules
     → length (bodyRows rs) ≤ bodyArea → short old ≡ false → short (filledWith ns rs old) ≡ false
-unfolding short filledWith
+unfolding filledWith
 still-long ns rs old a b c s =
-    let long : (x : ℕ) (size : ℕ) → ltb x size ≡ false → size ≤ x = λ x size e. ltb-false x size e in
-    let s1 : ltb (length (old .spellings)) nameArea ≡ false = not-true _ (λ e. clash (or-left _ e) s) in
-    let s2 : ltb (length (old .heads)) rules ≡ false = not-true _ (λ e. clash (or-right (ltb (length (old .spellings)) nameArea) (or-left _ e)) s) in
-    let s3 : ltb (length (old .bodies)) bodyArea ≡ false =
-    not-true _ (λ e. clash (or-right (ltb (length (old .spellings)) nameArea) (or-right (ltb (length (old .heads)) rules) e)) s)
-    in
-    ap₂ _||_ (ap (λ (x : ℕ). ltb x nameArea) (length-filled nameArea (nameRows ns) (old .spellings) a (long _ _ s1)) ∙ s1)
-    (ap₂ _||_ (ap (λ (x : ℕ). ltb x rules) (length-filled rules (headRows rs) (old .heads) b (long _ _ s2)) ∙ s2)
-    (ap (λ (x : ℕ). ltb x bodyArea) (length-filled bodyArea (bodyRows rs) (old .bodies) c (long _ _ s3)) ∙ s3))
+    let l = long-enough old s in
+    not-short (filledWith ns rs old)
+    (omega (arith, l .0, length-filled nameArea (nameRows ns) (old .spellings) a (l .0)))
+    (omega (arith, l .1, length-filled rules (headRows rs) (old .heads) b (l .1)))
+    (omega (arith, l .2, length-filled bodyArea (bodyRows rs) (old .bodies) c (l .2)))
 
 -- equal parts make equal areas
 same-areas : {a b c x y z : List ℕ} → a ≡ x → b ≡ y → c ≡ z

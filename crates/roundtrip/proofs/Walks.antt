@@ -2,23 +2,21 @@
 -- Assumes nothing.
 use mathlib.Core.Path.{_≡_, refl, sym, ap, subst, _∙_}
 use mathlib.Core.Bool.{true, false}
-use mathlib.Core.Logic.{inl, inr}
 use mathlib.Core.List.{List, [], _∷_, _++_, map}
 use Prim.Native.Nat.{ℕ, zero, suc, _+_, _≤_, _<_, min, max}
 use native.Mathlib.Omega.{arith}
 use lib.Dec.{eqb, leb, ltb}
 use lib.ListN.{length, getD, length-append}
-use borrow.Author.Tests.{le-leb, eq-eqb, eqb-true, eqb-false, ltb-true, ltb-false}
+use borrow.Author.Tests.{le-leb, eqb-true, eqb-false, ltb-true, ltb-false}
 use Rattle.limits.specs.Book.{names}
 use Rattle.sets.specs.Set.{Set, members}
-use Rattle.sets.proofs.Logic.{either, clash, and-left, and-right, and-make, or-left, or-right, pick-true, pick-false}
+use Rattle.sets.proofs.Logic.{either, clash, and-left, and-right, and-make, pick-true, pick-false}
 use Rattle.grammar.specs.Bytes.{Bytes}
 use Rattle.grammar.specs.Grammar.{Clause}
 use Rattle.tables.specs.Numbering.{place, meet, meetAll, standing, namesOf, places, numbered}
 use Rattle.tables.specs.Writing.{numbersOf, numbersIn, orderly, metIn}
-use Rattle.tables.specs.Claims.{Among}
 use Rattle.tables.proofs.Numbering.{Distinct, by-place, place-new, meet-known, meet-new, meet-met, meets-le, meets-keep, meets-met, meets-from}
-use Rattle.tables.proofs.Numbering.{distinct-meet, distinct-meets, meets-append, places-same, places-below}
+use Rattle.tables.proofs.Numbering.{distinct-meet, distinct-meets, meets-append, places-same, places-below, places-has}
 
 -- the numbers xs, after `met`, are met in order, and `top` in the end
 abbrev pub Met : ℕ → List ℕ → ℕ → Type 0
@@ -72,13 +70,6 @@ walk (suc k) f i met top h g l all below =
         either (ltb met top) (λ b. clash (all i (omega arith) (omega (arith, ltb-true met top b))) t)
         (λ b. omega (arith, ltb-false met top b)))
         (λ e. let q : i ≡ met → ⊥ = eqb-false i met e in omega arith)
-
--- a name of the list is one of its places
-places-has : (ns xs : List Bytes) (x : Bytes) → Among x xs → places ns xs (place ns x) ≡ true
-unfolding places Among
-places-has ns [] x m = absurd m
-places-has ns (y ∷ xs) x (inl e) = or-left (places ns xs (place ns x)) (eq-eqb (place ns y) (place ns x) (ap (place ns) e))
-places-has ns (y ∷ xs) x (inr m) = or-right (eqb (place ns y) (place ns x)) (places-has ns xs x m)
 
 -- a name met is known, or the next
 head-met : (ms : List Bytes) (x : Bytes) → (place (meet ms x) x ≤ length ms) × (max (length ms) (suc (place (meet ms x) x)) ≡ length (meet ms x))

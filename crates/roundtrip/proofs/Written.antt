@@ -1,25 +1,23 @@
 -- A written book, line by line: each line is a rule of the names that it was written from, so the whole is a book with the clauses written.
 -- Assumes nothing.
-use mathlib.Core.Path.{_≡_, refl, sym, ap, ap₂, _∙_}
-use mathlib.Core.Bool.{true, not}
+use mathlib.Core.Path.{_≡_, refl, sym, ap₂, _∙_}
+use mathlib.Core.Bool.{true}
 use mathlib.Core.Logic.{inl, inr}
 use mathlib.Core.List.{List, [], _∷_, _++_, map}
 use Prim.Native.Nat.{ℕ, _<_}
 use lib.Dec.{eqb}
 use lib.ListN.{length, getD}
-use borrow.Author.Tests.{eqb-true, eqb-false, ne-eqb}
+use borrow.Author.Tests.{ne-eqb}
 use Rattle.limits.specs.Book.{names}
 use Rattle.sets.specs.Set.{members}
-use Rattle.sets.proofs.Logic.{and-left, and-right, and-make, of-not, not-of-false}
+use Rattle.sets.proofs.Logic.{and-left, and-right, and-make, not-of-false}
 use Rattle.program.specs.Program.{Rule}
-use Rattle.grammar.specs.Bytes.{Bytes, Folding, blank, notEnd, nameByte, allOf, colon, space, lineEnd}
-use Rattle.grammar.proofs.Words.{end-reserved}
+use Rattle.grammar.specs.Bytes.{Bytes, Folding, blank, notEnd, nameByte, allOf, colon, space}
 use Rattle.grammar.specs.Grammar.{Name, Parted, Body, Clause, rule, Says, Unbroken}
 use Rattle.grammar.proofs.Spans.{all-append, all-wider}
 use Rattle.tables.specs.Reading.{Saying, Fits, Book}
-use Rattle.tables.specs.Areas.{nonzero}
 use Rattle.tables.specs.Writing.{spacedOn, spaced, ruleText, written, own}
-use Rattle.tables.proofs.Good.{Good}
+use Rattle.tables.proofs.Good.{Good, own-is, own-some, good-unbroken}
 
 -- the names of these numbers
 abbrev pub spelled : List Bytes → List ℕ → List Bytes
@@ -39,17 +37,7 @@ unfoldable pub RulesBelow : ℕ → List (Rule ℕ) → Type 0
 RulesBelow n [] = Unit
 RulesBelow n (r ∷ rs) = (r .head < n) × Bounded n (members names (r .body) 0) × RulesBelow n rs
 
--- a byte of a folded name is its own entry
-own-is : (fold : ℕ → ℕ) (b : ℕ) → own fold b ≡ true → fold b ≡ b
-unfolding own
-own-is fold b e = eqb-true (fold b) b (and-right (nonzero b) (eqb (fold b) b) e)
-
--- it is not zero
-own-some : (fold : ℕ → ℕ) (b : ℕ) → own fold b ≡ true → b ≡ 0 → ⊥
-unfolding own nonzero
-own-some fold b e = eqb-false b 0 (of-not (eqb b 0) (and-left (not (eqb b 0)) (eqb (fold b) b) e))
-
--- so folding changes nothing
+-- folding changes no folded name
 own-fold : (fold : ℕ → ℕ) (s : Bytes) → allOf (own fold) s ≡ true → map fold s ≡ s
 unfolding allOf
 own-fold fold [] e = refl
@@ -74,13 +62,6 @@ module _ (fold : ℕ → ℕ) (folding : Folding fold) where
   unfolding nameByte
   own-name b e = not-of-false (eqb (fold b) 0) (ne-eqb (fold b) 0 (λ z. own-some fold b e (sym (own-is fold b e) ∙ z)))
 
-  -- it ends no line
-  own-on : (b : ℕ) → own fold b ≡ true → notEnd b ≡ true
-  unfolding notEnd
-  own-on b e =
-      not-of-false (eqb b lineEnd)
-      (ne-eqb b lineEnd (λ z. own-some fold b e (sym (own-is fold b e) ∙ ap fold z ∙ folding .none lineEnd end-reserved)))
-
   -- a folded name is a name
   good-name : {s : Bytes} → Good fold s → Name fold s
   good-name {s} g = record { some = g .some; fits = g .fits; bytes = all-wider (own fold) (nameByte fold) own-name s (g .bytes) }
@@ -88,10 +69,6 @@ module _ (fold : ℕ → ℕ) (folding : Folding fold) where
   -- and stays as it is
   good-fold : {s : Bytes} → Good fold s → map fold s ≡ s
   good-fold {s} g = own-fold fold s (g .bytes)
-
-  -- it holds no line end
-  good-unbroken : {s : Bytes} → Good fold s → allOf notEnd s ≡ true
-  good-unbroken {s} g = all-wider (own fold) notEnd own-on s (g .bytes)
 
   -- so do all names of a body
   all-fold : (xs : List Bytes) → AllGood xs → map (map fold) xs ≡ xs
@@ -115,13 +92,13 @@ module _ (fold : ℕ → ℕ) (folding : Folding fold) where
   on-unbroken : (xs : List Bytes) → AllGood xs → allOf notEnd (spacedOn xs) ≡ true
   unfolding AllGood spacedOn allOf notEnd
   on-unbroken [] g = refl
-  on-unbroken (n ∷ ns) g = all-append notEnd n (spacedOn ns) ∙ and-make (good-unbroken (g .0)) (on-unbroken ns (g .1))
+  on-unbroken (n ∷ ns) g = all-append notEnd n (spacedOn ns) ∙ and-make (good-unbroken fold folding (g .0)) (on-unbroken ns (g .1))
 
   -- nor does the first
   spaced-unbroken : (xs : List Bytes) → AllGood xs → allOf notEnd (spaced xs) ≡ true
   unfolding AllGood spaced allOf
   spaced-unbroken [] g = refl
-  spaced-unbroken (n ∷ ns) g = all-append notEnd n (spacedOn ns) ∙ and-make (good-unbroken (g .0)) (on-unbroken ns (g .1))
+  spaced-unbroken (n ∷ ns) g = all-append notEnd n (spacedOn ns) ∙ and-make (good-unbroken fold folding (g .0)) (on-unbroken ns (g .1))
 
   module _ (ns : List Bytes) (good : (a : ℕ) → a < length ns → Good fold (getD ns a [])) where
     -- the names of numbers that are below their count are folded names
@@ -160,7 +137,7 @@ module _ (fold : ℕ → ℕ) (folding : Folding fold) where
         let xs : List Bytes = spelled ns (members names (r .body) 0) in
         let h : Bytes = getD ns (r .head) [] in
         all-append notEnd h (colon ∷ spaced xs)
-        ∙ and-make (good-unbroken (good (r .head) l)) (spaced-unbroken xs (good-spelled (members names (r .body) 0) b))
+        ∙ and-make (good-unbroken fold folding (good (r .head) l)) (spaced-unbroken xs (good-spelled (members names (r .body) 0) b))
 
     -- all lines do
     lines-say : (rs : List (Rule ℕ)) → RulesBelow (length ns) rs → Saying fold (map (ruleText ns) rs) (map (clauseOf ns) rs)

@@ -5,4 +5,5 @@ pub mod Counting
 pub mod Ranges
 pub mod Walk
 pub mod Rounds
+pub mod Running
 pub mod Theorems

@@ -47,6 +47,11 @@ pub or-elim : {X : Type 0} (a b : Bool) → a || b ≡ true → (a ≡ true → 
 or-elim true b e f g = f refl
 or-elim false b e f g = g e
 
+-- neither of two tests holds
+pub or-none : (a b : Bool) → a || b ≡ false → (a ≡ false) × (b ≡ false)
+or-none true b e = clash refl e
+or-none false b e = (refl, e)
+
 pub of-not : (b : Bool) → not b ≡ true → b ≡ false
 of-not true e = sym e
 of-not false e = refl

@@ -1,15 +1,15 @@
 -- The first member at or past a number, and the walk from member to member.
 -- Assumes nothing.
-use mathlib.Core.Path.{_≡_, refl, sym, ap, _∙_}
+use mathlib.Core.Path.{_≡_, refl, sym, ap, _∙_, subst}
 use mathlib.Core.Logic.{⊎-elim}
-use mathlib.Core.List.{[], _∷_}
+use mathlib.Core.List.{List, [], _∷_}
 use mathlib.Core.Bool.{Bool, true, false}
 use Prim.Native.Nat.{ℕ, zero, suc, _+_, _-_, _≤_, _<_}
 use native.Mathlib.Nat.{add-zero, le-refl, eq-or-lt-of-le, le-antisymm}
 use native.Mathlib.Numerals.{one-add}
 use native.Mathlib.Omega.{arith}
 use lib.Dec.{eqb, ltb}
-use lib.ListN.{length}
+use lib.ListN.{length, getD}
 use borrow.Author.Tests.{eqb-true, eqb-false, ltb-true, ltb-false}
 use Rattle.sets.specs.Set.{Set, pick, within, count, next, members}
 use Rattle.sets.proofs.Ranges.{count-add}
@@ -123,6 +123,57 @@ members-count (suc k) f i =
   where
     moved : (i j : ℕ) → i + (1 + j) ≡ suc i + j
     moved i j = omega arith
+
+-- xs are the members of f from i on and below n: each is one, they rise, and each is there
+pub record Walked (f : Set) (i n : ℕ) (xs : List ℕ) : Type 0 where
+  pub stop : (j : ℕ) → j < length xs → (i ≤ getD xs j 0) × (getD xs j 0 < n) × (f (getD xs j 0) ≡ true)
+  pub rising : (j l : ℕ) → j < l → l < length xs → getD xs j 0 < getD xs l 0
+  pub has : (a : ℕ) → i ≤ a → a < n → f a ≡ true → (j : ℕ) × (j < length xs) × (getD xs j 0 ≡ a)
+
+-- one number more in front, which is a member, or not
+walked-in : (f : Set) (i n : ℕ) (xs : List ℕ) → i < n → f i ≡ true → Walked f (suc i) n xs → Walked f i n (i ∷ xs)
+walked-in f i n xs b e w = record { stop = stop; rising = rising; has = has }
+  where
+    stop : (j : ℕ) → j < length (i ∷ xs) → (i ≤ getD (i ∷ xs) j 0) × (getD (i ∷ xs) j 0 < n) × (f (getD (i ∷ xs) j 0) ≡ true)
+    stop zero l = (omega arith, b, e)
+    stop (suc j) l = let s = w .stop j (omega arith) in (omega (arith, s .0), s .1, s .2)
+
+    rising : (j l : ℕ) → j < l → l < length (i ∷ xs) → getD (i ∷ xs) j 0 < getD (i ∷ xs) l 0
+    rising zero zero h l = absurd (omega arith)
+    rising (suc j) zero h l = absurd (omega arith)
+    rising zero (suc m) h l = w .stop m (omega arith) .0
+    rising (suc j) (suc m) h l = w .rising j m (omega arith) (omega arith)
+
+    has : (a : ℕ) → i ≤ a → a < n → f a ≡ true → (j : ℕ) × (j < length (i ∷ xs)) × (getD (i ∷ xs) j 0 ≡ a)
+    has a l m t =
+        either (eqb i a) (λ q. (zero, omega arith, eqb-true i a q))
+        (λ q.
+        let ne : i ≡ a → ⊥ = eqb-false i a q in
+        let r = w .has a (omega (arith, ne)) m t in
+        (suc (r .0), omega (arith, r .1), r .2))
+
+walked-out : (f : Set) (i n : ℕ) (xs : List ℕ) → f i ≡ false → Walked f (suc i) n xs → Walked f i n xs
+walked-out f i n xs e w = record {
+  stop = λ j l. let s = w .stop j l in (omega (arith, s .0), s .1, s .2);
+  rising = w .rising;
+  has = λ a l m t.
+      either (eqb i a) (λ q. clash t (ap f (sym (eqb-true i a q)) ∙ e))
+      (λ q. let ne : i ≡ a → ⊥ = eqb-false i a q in w .has a (omega (arith, ne)) m t);
+}
+
+-- so are the members
+pub walked : (k : ℕ) (f : Set) (i n : ℕ) → i + k ≡ n → Walked f i n (members k f i)
+walked zero f i n h = unfold members in record {
+  stop = λ j l. absurd (omega arith);
+  rising = λ j l b m. absurd (omega arith);
+  has = λ a l m t. absurd (omega arith);
+}
+walked (suc k) f i n h =
+    let xs : List ℕ = members k f (suc i) in
+    let w : Walked f (suc i) n xs = walked k f (suc i) n (omega arith) in
+    either (f i)
+    (λ e. subst (Walked f i n) (sym (members-in k f i e)) (walked-in f i n xs (omega arith) e w))
+    (λ e. subst (Walked f i n) (sym (members-out k f i e)) (walked-out f i n xs e w))
 
 -- a step of a loop to n stays within it and never goes back
 pub walk-range : (n i r : ℕ) (f : Set) → i ≤ n → r ≡ next (n - i) f i → (i ≤ r) × (r ≤ n)

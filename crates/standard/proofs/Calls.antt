@@ -11,7 +11,7 @@ use lib.Seq.{drop-at}
 use borrow.Author.Tests.{lt-ltb, le-ltb, ltb-false, not-true, not-false}
 use Rattle.limits.specs.Book.{names, rules, atoms, wordBits, rowWords, bodyWords, bodyArea, rowArea}
 use Rattle.sets.specs.Set.{Set, count, only, emptySet}
-use Rattle.sets.proofs.Logic.{or-left, or-right, clash}
+use Rattle.sets.proofs.Logic.{or-left, or-right, or-none}
 use Rattle.sets.proofs.Counting.{count-le}
 use Rattle.words.specs.Row.{row, part, pack}
 use Rattle.program.specs.Program.{Program}
@@ -31,7 +31,7 @@ use Rattle.systems.proofs.Running.{length-model, model-again}
 use Rattle.systems.proofs.Standard.{standardWell, standard-short, standard-ill, standard-over, standard-good}
 use Rattle.ways.specs.Ways.{severalNames}
 use Rattle.ways.proofs.Counts.{heads-below, row-atoms, row-h}
-use Rattle.standard.specs.Partial.{withRows, Ready}
+use Rattle.placing.specs.Partial.{withRows, Ready}
 use Rattle.standard.specs.Short.{tooShort}
 
 -- areas of h, b, a, y and m entries: each that is too short settles it
@@ -63,12 +63,7 @@ module _ (h b a y m : ℕ) where
   unfolding tooShort
   lack-model p q r s = sym (rw (le-ltb h rules p, le-ltb b bodyArea q, le-ltb a rowArea r, le-ltb y rowArea s))
 
--- areas that are not too short
-or-none : (a b : Bool) → a || b ≡ false → (a ≡ false) × (b ≡ false)
-or-none true b e = clash refl e
-or-none false b e = (refl, e)
-
--- each is long enough, r being the test of them all
+-- areas that are not too short: each is long enough, r being the test of them all
 pub long-enough : (h b a y m : ℕ) (r : Bool) → r ≡ tooShort h b a y m → r ≡ false
     → (rules ≤ h) × (bodyArea ≤ b) × (rowArea ≤ a) × (rowArea ≤ y) × (rowWords ≤ m)
 unfolding tooShort

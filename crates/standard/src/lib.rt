@@ -5,8 +5,6 @@ ghost use mathlib.Core.Path.{_≡_};
 ghost use Rattle.systems.specs.Standardise.{standardCall};
 ghost use Rattle.standard.specs.Short.{tooShort};
 
-mod placing;
-
 // The number of a refusal, 0 for none; then the atoms, c and h.
 pub struct Answer {
     pub number: usize,

@@ -3,6 +3,7 @@ pub mod Bridge
 pub mod Formed
 pub mod Folds
 pub mod Running
+pub mod Turns
 pub mod Standard
 pub mod Stages
 pub mod Sizes

@@ -109,7 +109,7 @@ row-filled w m size rows old i a l b =
     ∙ row-front w m rows (replicate (size - length (packed w m rows)) 0 ++ drop size old) i a l b
 
 -- a word past the used part of a filled area
-zero-word : (size : ℕ) (xs old : List ℕ) (k : ℕ) → length xs ≤ k → k < size → _≡_ {A = ℕ} (getD (filled size xs old) k 0) 0
+pub zero-word : (size : ℕ) (xs old : List ℕ) (k : ℕ) → length xs ≤ k → k < size → _≡_ {A = ℕ} (getD (filled size xs old) k 0) 0
 zero-word size xs old k h l =
     let q : k ≡ length xs + (k - length xs) = omega arith in
     let z : List ℕ = replicate (size - length xs) 0 in
@@ -119,22 +119,27 @@ zero-word size xs old k h l =
     ∙ List·getD-append z (drop size old) 0 (k - length xs) (omega arith)
     ∙ getD-replicate (size - length xs) (k - length xs) 0 0 (omega arith)
 
--- is empty there, to the stated size
-pub row-filled-past : (w m size : ℕ) (rows : ℕ → Set) (old : List ℕ) (i a : ℕ)
-    → m ≤ i → suc i * w ≤ size → rowIn w (filled size (packed w m rows) old) i a ≡ false
-row-filled-past w m size rows old i a l h =
-    let area : List ℕ = filled size (packed w m rows) old in
+-- so a row that lies there is empty, to the stated size
+pub row-unused : (w size : ℕ) (xs old : List ℕ) (i a : ℕ)
+    → length xs ≤ i * w → suc i * w ≤ size → rowIn w (filled size xs old) i a ≡ false
+row-unused w size xs old i a s h =
+    let area : List ℕ = filled size xs old in
     either (ltb a (w * wordBits))
     (λ e.
     let b : a < w * wordBits = ltb-true a (w * wordBits) e in
     let q : a / wordBits < w = omega arith in
-    let s : m * w ≤ i * w = mul-le-mul-right w l in
     let t : suc i * w ≡ i * w + w = suc-mul i w in
     row-part (i * w) w area a b
-    ∙ ap (λ (x : ℕ). bit x (a % wordBits))
-    (zero-word size (packed w m rows) old (i * w + a / wordBits) (omega (arith, length-packed w m rows)) (omega arith))
+    ∙ ap (λ (x : ℕ). bit x (a % wordBits)) (zero-word size xs old (i * w + a / wordBits) (omega arith) (omega arith))
     ∙ bit-zero (a % wordBits))
     (λ e. row-in-past w area i a (ltb-false a (w * wordBits) e))
+
+-- as is one past the rows that the area is filled with
+pub row-filled-past : (w m size : ℕ) (rows : ℕ → Set) (old : List ℕ) (i a : ℕ)
+    → m ≤ i → suc i * w ≤ size → rowIn w (filled size (packed w m rows) old) i a ≡ false
+row-filled-past w m size rows old i a l h =
+    let s : m * w ≤ i * w = mul-le-mul-right w l in
+    row-unused w size (packed w m rows) old i a (omega (arith, length-packed w m rows)) h
 
 -- Rows put.
 

@@ -1,30 +1,31 @@
--- The rounds call: the set in a model area, and the loop of rounds with its end and its bound.
+-- The rounds call: the set in a model area, sets that end at a count, and each way out of the call.
 -- Assumes nothing.
-use mathlib.Core.Path.{_≡_, refl, sym, ap, _∙_, subst, fun-ext}
+use mathlib.Core.Path.{_≡_, refl, sym, _∙_, subst, fun-ext}
 use mathlib.Core.Bool.{Bool, true, false, not, _&&_, _||_}
 use mathlib.Core.List.{List, _++_}
-use Prim.Native.Nat.{ℕ, suc, _+_, _*_, _≤_, _<_}
-use native.Mathlib.Nat.{not-suc-le-zero}
+use Prim.Native.Nat.{ℕ, _*_, _≤_, _<_}
 use native.Mathlib.Omega.{arith}
 use lib.Dec.{leb, ltb}
 use borrow.Author.Tests.{leb-true, le-leb, lt-ltb, le-ltb, ltb-true, ltb-false}
 use lib.ListN.{length, drop, replicate}
 use Rattle.limits.specs.Book.{atoms, wordBits, rowWords, rowArea}
-use Rattle.sets.specs.Set.{Set, Within, Same, pick, exists, within, same, count, emptySet, only, union}
-use Rattle.sets.specs.Steps.{Monotone, Least, after, rounds, reached}
+use Rattle.sets.specs.Set.{Set, Within, Same, pick, exists, within, same, emptySet, only, union}
+use Rattle.sets.specs.Steps.{Monotone, Least}
 use Rattle.sets.proofs.Logic.{either, clash, not-true, iff, and-left, and-right, and-make, or-left, or-right, of-not, not-of-false, pick-true, pick-false}
-use Rattle.sets.proofs.Tests.{below-suc, exists-find, exists-none, within-at, within-make, within-same, same-at, same-make, same-within, same-sym}
-use Rattle.sets.proofs.Counting.{count-le}
-use Rattle.sets.proofs.Rounds.{rounds-first, rounds-join, reached-least}
+use Rattle.sets.proofs.Tests.{exists-find, exists-none, within-at, within-make, within-same, same-at, same-make, same-within, same-sym}
+use Rattle.sets.proofs.Rounds.{rounds-first, reached-least}
+use Rattle.sets.proofs.Running.{step-sees, rounds-few}
 use Rattle.words.specs.Row.{Words, pack, part, put}
+use Rattle.words.proofs.Rows.{length-pack}
 use Rattle.program.specs.System.{System, round, unfolded, roundsOf, heldBy}
 use Rattle.program.proofs.Folds.{round-folded}
 use Rattle.program.proofs.Alike as Alike
+use Rattle.tables.proofs.Encoding.{drop-begun}
 use Rattle.systems.specs.Rows.{below, formedRows}
 use Rattle.systems.specs.Rounds.{RoundsOutcome, modelIn, withModel, systemIn, shortSystem, formedSystem, startKept, roundsRefusal, runOf, roundsCall}
 use Rattle.systems.specs.Claims.{RoundsLong, RoundsFormed, Lost, Runs}
 use Rattle.systems.proofs.Packed.{part-past, put-front, set-none, set-words, set-row, length-set, set-again, set-same, set-known, set-joined, set-below, set-below-past}
-use Rattle.systems.proofs.Formed.{formed-at, formed-make, within-fewer, round-same}
+use Rattle.systems.proofs.Formed.{formed-at, formed-make, within-fewer}
 
 -- The model area: what holds of a set at the front of an area, at its width.
 
@@ -56,6 +57,11 @@ pub model-joined : (a : ℕ) (f : Set) (area old : List ℕ) → area ≡ withMo
     → withModel (union (modelIn area) (only a)) area ≡ withModel (union f (only a)) old
 unfolding withModel
 model-joined = set-joined rowWords
+
+-- what lies past the words of the set is as it was
+pub model-rest : (f : Set) (model : List ℕ) → drop rowWords (withModel f model) ≡ drop rowWords model
+unfolding withModel
+model-rest f model = drop-begun rowWords (pack rowWords f) model (omega (arith, length-pack rowWords f))
 
 -- as it is written: cleared, or put
 pub model-none : (old : List ℕ) → replicate rowWords 0 ++ drop rowWords old ≡ withModel emptySet old
@@ -126,116 +132,18 @@ pub round-mono : (s : System) → Monotone (s .atoms) (round s)
 unfolding unfolded
 round-mono s = subst (Monotone (s .atoms)) (sym (round-folded s 0)) (Alike.round-mono s 1)
 
--- a round sees only what lies below the atom count
-pub round-sees : (s : System) (v w : Set) → Same (s .atoms) v w → Same (s .atoms) (round s v) (round s w)
-round-sees s v w e = round-same s s refl (λ i l k b. refl) (λ i l k b. refl) v w e
-
 -- the start set is kept where it lies within what one round makes of it, up to any bound past the atoms
 pub kept-test : (s : System) (n : ℕ) (v w : Set)
     → s .atoms ≤ n → Ends (s .atoms) v → Same (s .atoms) v (s .start) → Same (s .atoms) w (round s v) → within n v w ≡ startKept s
 unfolding startKept
 kept-test s n v w l e p d =
     within-ends (s .atoms) n v w l e
-    ∙ within-same (s .atoms) v (s .start) w (round s (s .start)) p (λ i b. d i b ∙ round-sees s v (s .start) p i b)
+    ∙ within-same (s .atoms) v (s .start) w (round s (s .start)) p (λ i b. d i b ∙ step-sees (s .atoms) (round s) (round-mono s) v (s .start) p i b)
 
--- The loop: v is the set, w the next one, t the rounds with the one that makes w; each round before that one changed something.
-pub record Running (s : System) (v w : Set) (t : ℕ) : Type 0 where
-  pub before : ℕ
-  pub counted : t ≡ suc before
-  pub now : Same (s .atoms) v (after before (round s) (s .start))
-  pub next : Same (s .atoms) w (round s (after before (round s) (s .start)))
-  pub moved : (r : ℕ) → r < before → Same (s .atoms) (round s (after r (round s) (s .start))) (after r (round s) (s .start)) → ⊥
-
--- the first round, from the start set
-pub run-begin : (s : System) (v w : Set) → Same (s .atoms) v (s .start) → Same (s .atoms) w (round s v) → Running s v w 1
-unfolding after
-run-begin s v w e d = record {
-  before = 0;
-  counted = refl;
-  now = e;
-  next = λ i l. d i l ∙ round-sees s v (s .start) e i l;
-  moved = λ r l. absurd (not-suc-le-zero l);
-}
-
--- a round that changed something is followed by another
-pub run-on : (s : System) (v w x : Set) (t : ℕ)
-    → Running s v w t → same (s .atoms) v w ≡ false → Same (s .atoms) x (round s w) → Running s w x (t + 1)
-unfolding after
-run-on s v w x t r e d =
-    let m : ℕ = s .atoms in
-    let q : ℕ = r .before in
-    let u : Set = after q (round s) (s .start) in
-    record {
-      before = suc q;
-      counted = omega (arith, r .counted);
-      now = r .next;
-      next = λ i l. d i l ∙ round-sees s w (round s u) (r .next) i l;
-      moved =
-          below-suc (λ k. Same m (round s (after k (round s) (s .start))) (after k (round s) (s .start)) → ⊥) q (r .moved)
-          (λ still. clash (same-make m v w (λ i l. r .now i l ∙ sym (still i l) ∙ sym (r .next i l))) e);
-    }
-
-module _ (s : System) (kept : startKept s ≡ true) where
-  rises : Within (s .atoms) (s .start) (round s (s .start))
-  unfolding startKept
-  rises = within-at (s .atoms) (s .start) (round s (s .start)) kept
-
-  -- the rounds are at most one more than the atoms
-  pub rounds-few : roundsOf s ≤ s .atoms + 1
-  unfolding roundsOf
-  rounds-few =
-      let m : ℕ = s .atoms in
-      let all : Set = λ i. true in
-      let a : rounds m (round s) (s .start) ≤ suc (count m all) =
-      rounds-join m (round s) (s .start) (round-mono s) rises all (λ t i l p. or-right (s .start i) refl) in
-      let b : count m all ≤ m = count-le m all in
-      omega arith
-
-  -- the loop's count is at most that of the rounds
-  pub run-within : (v w : Set) (t : ℕ) → Running s v w t → t ≤ roundsOf s
-  unfolding roundsOf
-  run-within v w t r =
-      let m : ℕ = s .atoms in
-      let f = rounds-first m (round s) (s .start) (round-mono s) rises in
-      let q : ℕ = f .0 in
-      let e : rounds m (round s) (s .start) ≡ suc q = f .1 in
-      let c : t ≡ suc (r .before) = r .counted in
-      either (ltb q (r .before)) (λ l. absurd (r .moved q (ltb-true q (r .before) l) (f .2 .still)))
-      (λ l. let b : r .before ≤ q = ltb-false q (r .before) l in omega arith)
-
-  -- so it never passes the atoms by more than one
-  pub run-bound : (v w : Set) (t : ℕ) → Running s v w t → t ≤ s .atoms + 1
-  run-bound v w t r =
-      let a : t ≤ roundsOf s = run-within v w t r in
-      let b : roundsOf s ≤ s .atoms + 1 = rounds-few in
-      omega arith
-
-  module _ (v w : Set) (t : ℕ) (r : Running s v w t) (e : same (s .atoms) v w ≡ true) where
-    abbrev u : Set
-    u = after (r .before) (round s) (s .start)
-
-    still : Same (s .atoms) (round s u) u
-    still i l = sym (r .next i l) ∙ sym (same-at (s .atoms) v w e i l) ∙ r .now i l
-
-    -- the round that changes nothing is the last, and it is counted
-    pub run-count : t ≡ roundsOf s
-    unfolding roundsOf
-    run-count =
-        let m : ℕ = s .atoms in
-        let f = rounds-first m (round s) (s .start) (round-mono s) rises in
-        let q : ℕ = f .0 in
-        let a : rounds m (round s) (s .start) ≡ suc q = f .1 in
-        let c : t ≡ suc (r .before) = r .counted in
-        let b : t ≤ rounds m (round s) (s .start) = unfold roundsOf in run-within v w t r in
-        either (ltb (r .before) q) (λ l. absurd (f .2 .before (r .before) (ltb-true (r .before) q l) still))
-        (λ l. let d : q ≤ r .before = ltb-false (r .before) q l in omega arith)
-
-    -- and its set is the one that the rounds reach
-    pub run-held : Same (s .atoms) v (heldBy s)
-    unfolding heldBy reached after roundsOf
-    run-held i l =
-        let a : suc (r .before) ≡ rounds (s .atoms) (round s) (s .start) = sym (r .counted) ∙ run-count in
-        r .now i l ∙ sym (still i l) ∙ ap (λ (k : ℕ). after k (round s) (s .start) i) a
+-- a start set that is kept rises
+pub start-rises : (s : System) → startKept s ≡ true → Within (s .atoms) (s .start) (round s (s .start))
+unfolding startKept
+start-rises s kept = within-at (s .atoms) (s .start) (round s (s .start)) kept
 
 -- The call.
 
@@ -372,7 +280,7 @@ module _ (all any model : List ℕ) where
         way-run : startKept s ≡ true → Runs all any model m s (runOf s model)
         unfolding runOf roundsOf heldBy
         way-run e =
-            let w : Within m (s .start) (round s (s .start)) = rises s e in
+            let w : Within m (s .start) (round s (s .start)) = start-rises s e in
             let h : m ≤ rowWords * wordBits = formed .0 in
             let v : Set = heldBy s in
             record {
@@ -382,7 +290,7 @@ module _ (all any model : List ℕ) where
               lost = (λ q. absurd (omega arith), λ p. let d = p .2 in clash (w (d .0) (d .1) (d .2)) (d .3));
               kept = λ q. absurd (q refl);
               first = λ q. rounds-first m (round s) (s .start) (round-mono s) w;
-              bound = λ q. rounds-few s e;
+              bound = λ q. rounds-few m (round s) (s .start) (round-mono s) w;
               least =
                   λ q. least-same m (round s) (s .start) v (modelIn (withModel (below m v) model)) (round-mono s)
                   (same-sym m (modelIn (withModel (below m v) model)) v (model-below m v model h))

@@ -12,7 +12,7 @@ use borrow.Author.Tests.{eqb-true, eqb-false, ltb-true, ltb-false, lt-ltb, le-lt
 use lib.ListN.{length}
 use Rattle.limits.specs.Book.{rules, atoms, wordBits, rowWords, bodyArea, rowArea}
 use Rattle.sets.specs.Set.{Set, pick, only, image}
-use Rattle.sets.proofs.Logic.{either, clash, not-true, or-left, or-right, pick-true, pick-false, holds, fails}
+use Rattle.sets.proofs.Logic.{either, clash, not-true, or-none, pick-true, pick-false, holds, fails}
 use Rattle.sets.proofs.Tests.{exists-same}
 use Rattle.sets.proofs.Counting.{image-find}
 use Rattle.program.specs.Program.{Program, WellFormed, size, bodyAt}
@@ -81,7 +81,7 @@ module _ (p : Program) (formed : WellFormed p) where
         past a b ∙ sym (not-true (f a) (λ e. let c : a < count = h a e in omega arith)))
 
     -- a row of an area filled with rows
-    row-whole : (rows : ℕ → Set) (old : List ℕ) (i : ℕ) → i < count → ((a : ℕ) → rows i a ≡ true → a < count)
+    pub row-whole : (rows : ℕ → Set) (old : List ℕ) (i : ℕ) → i < count → ((a : ℕ) → rows i a ≡ true → a < count)
         → (a : ℕ) → rowIn rowWords (filled rowArea (packed rowWords count rows) old) i a ≡ rows i a
     row-whole rows old i l h =
         whole (rows i) (rowIn rowWords (filled rowArea (packed rowWords count rows) old) i) h
@@ -150,15 +150,15 @@ module _ (heads bodies : List ℕ) (o : RowAreas) where
   pub tables-long : shortTables heads bodies o ≡ false → StandardLong heads bodies o
   unfolding shortTables
   tables-long e =
-      let rest : Bool = shortAll || (shortAny || shortModel) in (
-        ltb-false (length heads) rules (not-true shortHeads (λ t. clash (or-left (shortBodies || rest) t) e)),
-        ltb-false (length bodies) bodyArea (not-true shortBodies (λ t. clash (or-right shortHeads (or-left rest t)) e)),
-        ltb-false (length (o .all)) rowArea
-            (not-true shortAll (λ t. clash (or-right shortHeads (or-right shortBodies (or-left (shortAny || shortModel) t))) e)),
-        ltb-false (length (o .any)) rowArea
-            (not-true shortAny (λ t. clash (or-right shortHeads (or-right shortBodies (or-right shortAll (or-left shortModel t)))) e)),
-        ltb-false (length (o .model)) rowWords
-            (not-true shortModel (λ t. clash (or-right shortHeads (or-right shortBodies (or-right shortAll (or-right shortAny t)))) e)),
+      let h = or-none shortHeads (shortBodies || (shortAll || (shortAny || shortModel))) e in
+      let b = or-none shortBodies (shortAll || (shortAny || shortModel)) (h .1) in
+      let a = or-none shortAll (shortAny || shortModel) (b .1) in
+      let y = or-none shortAny shortModel (a .1) in (
+        ltb-false (length heads) rules (h .0),
+        ltb-false (length bodies) bodyArea (b .0),
+        ltb-false (length (o .all)) rowArea (a .0),
+        ltb-false (length (o .any)) rowArea (y .0),
+        ltb-false (length (o .model)) rowWords (y .1),
       )
 
   pub long-tables : StandardLong heads bodies o → shortTables heads bodies o ≡ false

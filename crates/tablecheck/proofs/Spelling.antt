@@ -7,7 +7,7 @@ use Prim.Native.Nat.{ℕ, zero, suc, _+_, _-_, _*_, _≤_, _<_}
 use native.Mathlib.Nat.{add-zero}
 use native.Mathlib.Omega.{arith}
 use lib.Dec.{eqb, leb}
-use lib.ListN.{length, getD, take, drop, length-take}
+use lib.ListN.{length, getD, take, drop}
 use lib.Seq.{length-take-le, take-take, take-nil, drop-drop}
 use borrow.Author.Tests.{eq-eqb, ne-eqb, le-leb, lt-leb, leb-true, leb-false, eqb-true, not-false}
 use Rattle.limits.specs.Book.{nameBytes}
@@ -19,6 +19,7 @@ use Rattle.grammar.proofs.Spans.{span-le, run-yes, run-no}
 use Rattle.tables.specs.Numbering.{sameBytes}
 use Rattle.tables.specs.Areas.{nonzero, nameAt}
 use Rattle.tables.specs.Writing.{zeroFrom, own, goodName}
+use Rattle.tables.proofs.Encoding.{name-fits}
 use Rattle.tablecheck.proofs.Places.{part-on, all-on, all-off, all-end, span-on, span-off, span-end}
 
 -- zeros from place i up to `to`
@@ -103,12 +104,6 @@ row area a = part (a * nameBytes) nameBytes area
 name-length : (area : Bytes) (a : ℕ) → length (nameAt area a) ≡ span nonzero (row area a)
 unfolding nameAt row
 name-length area a = length-take-le (span nonzero (row area a)) (row area a) (span-le nonzero (row area a))
-
--- and no longer than its row
-pub name-fits : (area : Bytes) (a : ℕ) → length (nameAt area a) ≤ nameBytes
-unfolding row
-name-fits area a =
-    omega (arith, name-length area a, span-le nonzero (row area a), length-take nameBytes (drop (a * nameBytes) area))
 
 -- name a begins at `from` and ends before `end`
 module _ (area : Bytes) (a from end : ℕ) (e : from ≡ a * nameBytes) (f : end ≡ a * nameBytes + length (nameAt area a)) where

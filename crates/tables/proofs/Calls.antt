@@ -38,20 +38,24 @@ outcome-refused k line old = refl
 not-one : (k : ℕ) → k ≡ 1 → k ≡ 0 → ⊥
 not-one k a b = omega arith
 
--- a line's cause is not 0
-barred-number : (fold : ℕ → ℕ) (cs : List Clause) (s : Bytes) (k : ℕ) → Barred fold cs s k → k ≡ 0 → ⊥
+-- a line's number is 5, 6 or 7
+barred-number : (fold : ℕ → ℕ) (cs : List Clause) (s : Bytes) (q : ℕ) → Barred fold cs s q → (3 ≤ q) × (q ≤ 7)
 unfolding Barred
-barred-number fold cs s k (inl x) e = omega (arith, x .0)
-barred-number fold cs s k (inr (c, says, inl x)) e = omega (arith, x .0)
-barred-number fold cs s k (inr (c, says, inr x)) e = omega (arith, x .0)
+barred-number fold cs s q (inl x) = (omega (arith, x .0), omega (arith, x .0))
+barred-number fold cs s q (inr (c, says, inl x)) = (omega (arith, x .0), omega (arith, x .0))
+barred-number fold cs s q (inr (c, says, inr x)) = (omega (arith, x .0), omega (arith, x .0))
 
--- nor a text's
-cause-number : (fold : ℕ → ℕ) (t : Bytes) (k line : ℕ) → Refuses fold t k line → k ≡ 0 → ⊥
+-- a text's is from 3 to 7
+pub refusal-range : (fold : ℕ → ℕ) (t : Bytes) (q line : ℕ) → Refusal fold t q line → (3 ≤ q) × (q ≤ 7)
 unfolding Refusal
+refusal-range fold t q line (inl x) = (omega (arith, x .0), omega (arith, x .0))
+refusal-range fold t q line (inr (inl x)) = (omega (arith, x .0), omega (arith, x .0))
+refusal-range fold t q line (inr (inr x)) = barred-number fold (x .cs) (x .here) q (x .barred)
+
+-- so a cause is not 0
+cause-number : (fold : ℕ → ℕ) (t : Bytes) (k line : ℕ) → Refuses fold t k line → k ≡ 0 → ⊥
 cause-number fold t k line (inl x) e = omega (arith, x .1)
-cause-number fold t k line (inr (l, inl x)) e = omega (arith, x .0)
-cause-number fold t k line (inr (l, inr (inl x))) e = omega (arith, x .0)
-cause-number fold t k line (inr (l, inr (inr x))) e = barred-number fold (x .cs) (x .here) k (x .barred) e
+cause-number fold t k line (inr x) e = omega (arith, refusal-range fold t k line (x .1) .0)
 
 module _ (fold : ℕ → ℕ) (judge : Reads fold) (t : Bytes) (old : Areas) where
   -- areas too short, and long enough

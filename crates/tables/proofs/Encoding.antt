@@ -1,24 +1,24 @@
 -- Names and rules in the lent areas: written as rows they are read back, and rows that are read are written back.
 -- Assumes nothing.
 use mathlib.Core.Path.{_≡_, refl, sym, ap, ap₂, _∙_, fun-ext}
-use mathlib.Core.Bool.{true, false}
+use mathlib.Core.Bool.{Bool, true, false, _||_}
 use mathlib.Core.List.{List, [], _∷_, _++_, append-assoc}
 use Prim.Native.Nat.{ℕ, zero, suc, _+_, _-_, _*_, _≤_, _<_}
 use native.Mathlib.Omega.{arith}
 use lib.Dec.{eqb, ltb}
-use borrow.Author.Tests.{eqb-true, ltb-true, ltb-false}
+use borrow.Author.Tests.{eqb-true, ltb-true, ltb-false, le-ltb}
 use lib.ListN.{length, getD, take, drop, replicate, length-append, length-take, length-drop, length-replicate, take-append-drop}
-use lib.Seq.{take-at, take-append-seam, drop-append-seam, drop-append-add, drop-drop, drop-cons, take-add}
+use lib.Seq.{take-at, drop-at, take-append-seam, drop-append-seam, drop-append-add, drop-drop, drop-cons, take-add}
 use Rattle.limits.specs.Book.{names, nameBytes, rules, bodyWords, nameArea, bodyArea}
 use Rattle.sets.specs.Set.{Set, pick}
-use Rattle.sets.proofs.Logic.{either, and-left, and-right, pick-true}
+use Rattle.sets.proofs.Logic.{either, and-left, and-right, or-none, pick-true}
 use Rattle.words.specs.Row.{row, Words, pack, part, put}
 use Rattle.words.proofs.Rows.{length-pack, row-pack, row-past, pack-row}
 use Rattle.words.proofs.Areas.{length-part, words-part}
 use Rattle.program.specs.Program.{Rule, blank}
 use Rattle.grammar.specs.Bytes.{Bytes, allOf}
 use Rattle.grammar.specs.Lines.{span, run}
-use Rattle.tables.specs.Areas.{Areas, filled, filledWith, padded, nameRows, headRows, bodyRows, nonzero}
+use Rattle.tables.specs.Areas.{Areas, short, filled, filledWith, padded, nameRows, headRows, bodyRows, nonzero}
 use Rattle.tables.specs.Begun.{begun}
 use Rattle.tables.specs.Areas.{nameAt, namesFrom, namesIn, ruleAt, rulesFrom, rulesIn}
 use Rattle.tables.specs.Writing.{zeroFrom}
@@ -121,6 +121,13 @@ pub name-at : (ns : List Bytes) (rest : List ℕ) → AllFine ns → (a : ℕ) �
 unfolding nameAt
 name-at ns rest h a l =
     ap (run nonzero) (part-nameRows ns rest (λ a l. h a l .0) a l) ∙ run-padded (getD ns a []) (h a l .1)
+
+-- a name is no longer than its row
+pub name-fits : (area : Bytes) (a : ℕ) → length (nameAt area a) ≤ nameBytes
+unfolding nameAt
+name-fits area a =
+    let r : List ℕ = part (a * nameBytes) nameBytes area in
+    omega (arith, length-take (span nonzero r) r, length-take nameBytes (drop (a * nameBytes) area))
 
 -- names read one by one
 names-from : (area : Bytes) (ns : List Bytes) (a : ℕ)
@@ -319,6 +326,27 @@ rules-low o m j a l h =
     let k : length r ≤ bodyWords = omega (arith, length-take bodyWords (drop ((0 + j) * bodyWords) (o .bodies))) in
     ap (λ (x : Rule ℕ). x .body a) (getD-rulesFrom o m 0 j j′) ∙ row-past r a (omega arith)
 
+-- Areas of their stated sizes.
+
+-- areas that are not short are long enough
+pub long-enough : (o : Areas) → short o ≡ false → (nameArea ≤ length (o .spellings)) × (rules ≤ length (o .heads)) × (bodyArea ≤ length (o .bodies))
+unfolding short
+long-enough o e =
+    let heads : Bool = ltb (length (o .heads)) rules in
+    let bodies : Bool = ltb (length (o .bodies)) bodyArea in
+    let a = or-none (ltb (length (o .spellings)) nameArea) (heads || bodies) e in
+    let b = or-none heads bodies (a .1) in (
+      ltb-false (length (o .spellings)) nameArea (a .0),
+      ltb-false (length (o .heads)) rules (b .0),
+      ltb-false (length (o .bodies)) bodyArea (b .1),
+    )
+
+-- and the other way
+pub not-short : (o : Areas) → nameArea ≤ length (o .spellings) → rules ≤ length (o .heads) → bodyArea ≤ length (o .bodies) → short o ≡ false
+unfolding short
+not-short o a b c =
+    rw (le-ltb (length (o .spellings)) nameArea a, le-ltb (length (o .heads)) rules b, le-ltb (length (o .bodies)) bodyArea c)
+
 -- Areas filled.
 
 -- an area that holds xs and then zeros is filled with xs already
@@ -339,6 +367,14 @@ filled-same size xs old h g e z =
 pub length-filled : (size : ℕ) (xs old : List ℕ) → length xs ≤ size → size ≤ length old → length (filled size xs old) ≡ length old
 unfolding filled
 length-filled size xs old h g = simp (length-append, length-replicate, length-drop) (omega arith)
+
+-- past its stated size it is as it was
+pub drop-filled : (size : ℕ) (xs old : List ℕ) → length xs ≤ size → drop size (filled size xs old) ≡ drop size old
+unfolding filled
+drop-filled size xs old h =
+    let z : List ℕ = replicate (size - length xs) 0 in
+    let n : length (xs ++ z) ≡ size = simp (length-append, length-replicate) (omega arith) in
+    ap (drop size) (sym (append-assoc xs z (drop size old))) ∙ drop-at (xs ++ z) (drop size old) size n
 
 -- past the used part there are zeros up to the stated size
 pub zero-filled : (size : ℕ) (xs old : List ℕ) → zeroFrom (length xs) size (filled size xs old) ≡ true

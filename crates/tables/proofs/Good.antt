@@ -5,20 +5,23 @@ use mathlib.Core.Bool.{true}
 use mathlib.Core.Logic.{inl, inr, ⊎-elim}
 use mathlib.Core.List.{List, [], _∷_, map}
 use Prim.Native.Nat.{ℕ, _≤_, _<_}
+use lib.Dec.{eqb}
 use lib.ListN.{length, getD, length-map}
-use borrow.Author.Tests.{eq-eqb}
+use borrow.Author.Tests.{eq-eqb, ne-eqb, eqb-true, eqb-false}
 use Rattle.limits.specs.Book.{nameBytes}
-use Rattle.sets.proofs.Logic.{and-left, and-right, and-make}
-use Rattle.grammar.specs.Bytes.{Bytes, Folding, nameByte, allOf}
+use Rattle.sets.proofs.Logic.{and-left, and-right, and-make, of-not, not-of-false}
+use Rattle.grammar.specs.Bytes.{Bytes, Folding, lineEnd, notEnd, nameByte, allOf, Among}
 use Rattle.grammar.specs.Grammar.{Name, Body, Clause, rule, Says}
 use Rattle.grammar.specs.Lines.{formOf}
 use Rattle.grammar.specs.Claims.{Classified, Cut}
+use Rattle.grammar.proofs.Spans.{all-wider}
+use Rattle.grammar.proofs.Words.{end-reserved}
 use Rattle.tables.specs.Numbering.{standing, namesOf}
 use Rattle.tables.specs.Reading.{read, Saying, Book, bookOf}
 use Rattle.tables.specs.Areas.{nonzero}
 use Rattle.tables.specs.Writing.{own}
-use Rattle.tables.specs.Claims.{Among}
 use Rattle.tables.proofs.Numbering.{among-split, names-from}
+use Rattle.tables.proofs.Encoding.{AllFine}
 use Rattle.tables.proofs.Judging.{judging}
 
 -- a folded name: 1 to 32 bytes, none of them zero, each its own entry
@@ -27,7 +30,37 @@ pub record Good (fold : ℕ → ℕ) (n : Bytes) : Type 0 where
   pub fits : length n ≤ nameBytes
   pub bytes : allOf (own fold) n ≡ true
 
+module _ (fold : ℕ → ℕ) where
+  -- a byte of a folded name is its own entry
+  pub own-is : (b : ℕ) → own fold b ≡ true → fold b ≡ b
+  unfolding own
+  own-is b e = eqb-true (fold b) b (and-right (nonzero b) (eqb (fold b) b) e)
+
+  -- it is not zero
+  own-nonzero : (b : ℕ) → own fold b ≡ true → nonzero b ≡ true
+  unfolding own
+  own-nonzero b e = and-left (nonzero b) (eqb (fold b) b) e
+
+  pub own-some : (b : ℕ) → own fold b ≡ true → b ≡ 0 → ⊥
+  unfolding nonzero
+  own-some b e = eqb-false b 0 (of-not (eqb b 0) (own-nonzero b e))
+
+  -- so folded names have at most 32 bytes, none of them zero
+  pub good-fine : (ns : List Bytes) → ((a : ℕ) → a < length ns → Good fold (getD ns a [])) → AllFine ns
+  good-fine ns good a l = (good a l .fits, all-wider (own fold) nonzero own-nonzero (getD ns a []) (good a l .bytes))
+
 module _ (fold : ℕ → ℕ) (folding : Folding fold) where
+  -- a byte of a folded name ends no line
+  own-on : (b : ℕ) → own fold b ≡ true → notEnd b ≡ true
+  unfolding notEnd
+  own-on b e =
+      not-of-false (eqb b lineEnd)
+      (ne-eqb b lineEnd (λ z. own-some fold b e (sym (own-is fold b e) ∙ ap fold z ∙ folding .none lineEnd end-reserved)))
+
+  -- so a folded name holds no line end
+  pub good-unbroken : {s : Bytes} → Good fold s → allOf notEnd s ≡ true
+  good-unbroken {s} g = all-wider (own fold) notEnd own-on s (g .bytes)
+
   -- folded name bytes are their own entries
   own-folded : (s : Bytes) → allOf (nameByte fold) s ≡ true → allOf (own fold) (map fold s) ≡ true
   unfolding allOf own nonzero nameByte

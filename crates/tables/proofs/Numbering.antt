@@ -10,17 +10,18 @@ use lib.Dec.{eqb, ltb}
 use lib.ListN.{length, getD, length-append, List·getD-append}
 use lib.Seq.{getD-append-seam}
 use borrow.Author.Tests.{ltb-true, ltb-false, lt-ltb, le-ltb, eqb-true, eq-eqb}
-use Rattle.limits.specs.Book.{bodyWords}
+use Rattle.limits.specs.Book.{names, bodyWords}
 use Rattle.sets.specs.Set.{Set}
-use Rattle.sets.proofs.Logic.{either, clash, and-left, and-right, and-make, or-elim, pick-true, pick-false}
+use Rattle.sets.proofs.Logic.{either, clash, not-true, and-left, and-right, and-make, or-left, or-right, or-elim, pick-true, pick-false}
 use Rattle.words.specs.Row.{pack}
 use Rattle.words.proofs.Rows.{length-pack}
 use Rattle.program.specs.Program.{Rule, blank}
-use Rattle.grammar.specs.Bytes.{Bytes}
+use Rattle.grammar.specs.Bytes.{Bytes, Among}
 use Rattle.grammar.specs.Grammar.{Clause}
 use Rattle.tables.specs.Numbering.{sameBytes, place, meet, meetAll, standing, namesOf, places, numbered, programOf}
 use Rattle.tables.specs.Areas.{headRows, bodyRows}
-use Rattle.tables.specs.Claims.{Among, Numbers}
+use Rattle.tables.specs.Claims.{Numbers}
+use Rattle.tables.proofs.Encoding.{Low}
 
 -- the test for the same bytes is equality,
 pub same-bytes-eq : (s t : Bytes) → sameBytes s t ≡ true → s ≡ t
@@ -360,6 +361,13 @@ bodies-length (r ∷ rs) =
 
 -- The numbering is one to one and onto, and the program by numbers is well formed.
 
+-- the number of each name in the list is one of its places
+pub places-has : (ns xs : List Bytes) (x : Bytes) → Among x xs → places ns xs (place ns x) ≡ true
+unfolding places Among
+places-has ns [] x m = absurd m
+places-has ns (y ∷ xs) x (inl e) = or-left (places ns xs (place ns x)) (eq-eqb (place ns y) (place ns x) (ap (place ns) e))
+places-has ns (y ∷ xs) x (inr m) = or-right (eqb (place ns y) (place ns x)) (places-has ns xs x m)
+
 -- a member of a body is a number below
 pub places-below : (ns xs : List Bytes) → ((x : Bytes) → Among x xs → place ns x < length ns) → (a : ℕ) → places ns xs a ≡ true → a < length ns
 unfolding places Among
@@ -421,3 +429,9 @@ numbers cs = record {
     bodies = bodies-below (namesOf cs) cs (names-met cs);
   });
 }
+
+-- no body of a book with at most 128 names has a member at or past 128
+pub book-low : (cs : List Clause) → length (namesOf cs) ≤ names → Low (map (numbered (namesOf cs)) cs)
+unfolding programOf
+book-low cs fits j a l h =
+    not-true (getD (map (numbered (namesOf cs)) cs) j blank .body a) (λ e. omega (arith, numbers cs .formed .bodies j a l e))

@@ -5,10 +5,9 @@ use mathlib.Core.List.{List, [], _∷_, map}
 use Prim.Native.Nat.{ℕ}
 use Prim.Native.String.{String}
 use Rattle.sets.specs.Set.{pick, members}
-use Rattle.grammar.specs.Bytes.{Bytes, blank, small, folded, nameByte, allOf}
+use Rattle.grammar.specs.Bytes.{Bytes, bytes, blank, small, folded, nameByte, allOf}
 use Rattle.grammar.specs.Grammar.{joined}
 use Rattle.grammar.specs.Lines.{span, grown, lines, goesOn, wordsOf, isName, allNames, fromColon, fromHead, starts, formOf}
-use Rattle.grammar.proofs.Samples.{bytes}
 use Rattle.tables.specs.Numbering.{sameBytes, place, meet, meetAll, standing, namesOf, places, numbered}
 use Rattle.tables.specs.Reading.{Reading, read, refused, lineCause, taken, readLines, bookOf, reading}
 use Rattle.tables.specs.Writing.{spacedOn, spaced, ruleText, written}

@@ -5,17 +5,18 @@ use mathlib.Core.List.{List, [], _∷_}
 use Prim.Native.Nat.{ℕ, _<_, _≤_}
 use lib.ListN.{length, getD}
 use Rattle.limits.specs.Book.{names, rules}
-use Rattle.grammar.specs.Bytes.{Bytes, Folding, folded}
+use Rattle.grammar.specs.Bytes.{Bytes, Folding, folded, Among}
 use Rattle.grammar.specs.Grammar.{Clause, rule}
 use Rattle.grammar.specs.Lines.{formOf}
 use Rattle.grammar.proofs.Folding.{folding as ours}
 use Rattle.grammar.proofs.Theorems.{classified, cut}
 use Rattle.tables.specs.Numbering.{standing, namesOf}
 use Rattle.tables.specs.Reading.{read, bookOf}
-use Rattle.tables.specs.Claims.{Among, Judged, Reads, ReadCalls}
+use Rattle.tables.specs.Claims.{Judged, Reads, ReadCalls}
 pub use Rattle.tables.proofs.Numbering.{numbers}
 use Rattle.tables.proofs.Judging as judging
 use Rattle.tables.proofs.Calls as calls
+use Rattle.tables.proofs.Encoding.{AllFine}
 use Rattle.tables.proofs.Good.{Good}
 use Rattle.tables.proofs.Good as good
 
@@ -52,3 +53,7 @@ module _ (fold : ℕ → ℕ) (folding : Folding fold) where
   pub read-good-at : (t : Bytes) (cs : List Clause) → bookOf fold t ≡ read cs
       → (a : ℕ) → a < length (namesOf cs) → Good fold (getD (namesOf cs) a [])
   read-good-at = good.read-good-at fold folding (classified fold folding) cut
+
+  -- so these have at most 32 bytes, none of them zero
+  pub read-fine : (t : Bytes) (cs : List Clause) → bookOf fold t ≡ read cs → AllFine (namesOf cs)
+  read-fine t cs q = good.good-fine fold (namesOf cs) (read-good-at t cs q)

@@ -8,16 +8,11 @@ use Prim.Native.Nat.{ℕ, _<_, _≤_}
 use lib.ListN.{length, getD}
 use Rattle.limits.specs.Book.{textBytes}
 use Rattle.program.specs.Program.{WellFormed}
-use Rattle.grammar.specs.Bytes.{Bytes}
+use Rattle.grammar.specs.Bytes.{Bytes, Among}
 use Rattle.grammar.specs.Grammar.{Clause}
 use Rattle.tables.specs.Numbering.{place, standing, namesOf, programOf}
 use Rattle.tables.specs.Reading.{read, refused, bookOf, reading, Book, Refusal}
 use Rattle.tables.specs.Areas.{Areas, Outcome, short, tablesOf, refusal, readCall}
-
--- x stands among the names xs
-unfoldable pub Among : Bytes → List Bytes → Type 0
-Among x [] = ⊥
-Among x (y ∷ ys) = (y ≡ x) ⊎ Among x ys
 
 -- texts are accepted and refused as the grammar says, whatever their length
 pub record Judged (fold : ℕ → ℕ) : Type 0 where

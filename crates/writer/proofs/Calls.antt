@@ -1,6 +1,6 @@
 -- The outcomes of the call.
 -- Assumes nothing.
-use mathlib.Core.Path.{_≡_, refl, sym, ap, ap₂, subst, _∙_}
+use mathlib.Core.Path.{_≡_, sym, ap, ap₂, subst, _∙_}
 use mathlib.Core.Bool.{Bool, true, false, not, _||_}
 use mathlib.Core.List.{List}
 use Prim.Native.Nat.{ℕ, _≤_, _<_}
@@ -9,7 +9,7 @@ use lib.Dec.{ltb}
 use lib.ListN.{length}
 use borrow.Author.Tests.{ltb-false, lt-ltb, le-ltb, not-true, not-false}
 use Rattle.limits.specs.Book.{textBytes, names, nameArea, rules, bodyArea}
-use Rattle.sets.proofs.Logic.{or-left, or-right, clash, pick-true, pick-false}
+use Rattle.sets.proofs.Logic.{or-left, or-right, or-none, pick-true, pick-false}
 use Rattle.program.specs.Program.{Rule}
 use Rattle.rows.specs.Clear.{cleared}
 use Rattle.grammar.specs.Bytes.{Bytes}
@@ -43,12 +43,7 @@ module _ (s h b t : ℕ) where
   unfolding tooShort
   lack-text p q r = sym (rw (le-ltb s nameArea p, le-ltb h rules q, le-ltb b bodyArea r))
 
--- areas that are not too short
-or-none : (a b : Bool) → a || b ≡ false → (a ≡ false) × (b ≡ false)
-or-none true b e = clash refl e
-or-none false b e = (refl, e)
-
--- each is long enough, r being the test of them all
+-- areas that are not too short: each is long enough, r being the test of them all
 pub long-enough : (s h b t : ℕ) (r : Bool) → r ≡ tooShort s h b t → r ≡ false
     → (nameArea ≤ s) × (rules ≤ h) × (bodyArea ≤ b) × (textBytes ≤ t)
 unfolding tooShort

@@ -12,7 +12,7 @@ use Rattle.grammar.specs.Bytes.{Bytes, colon, lineEnd}
 use Rattle.grammar.specs.Grammar.{mark, joined}
 use Rattle.tables.specs.Areas.{Areas, nameAt, namesIn, ruleAt, rulesIn, rulesOnly}
 use Rattle.tables.specs.Writing.{ruleText, written}
-use Rattle.tablecheck.proofs.Spelling.{name-fits}
+use Rattle.tables.proofs.Encoding.{name-fits}
 use Rattle.writer.specs.Spelt.{spelt, restOf}
 use Rattle.writer.proofs.Lines.{spelt-yes, spelt-no, after, after-start, after-on, after-end, bodyText, line, body-bare, body-full}
 use Rattle.writer.proofs.Lines.{linesFrom, lines-start, written-is, lines-on, lines-end}

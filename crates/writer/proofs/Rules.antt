@@ -14,23 +14,29 @@ use Rattle.grammar.specs.Grammar.{mark, joined}
 use Rattle.tables.specs.Areas.{Areas, nameAt, namesIn, ruleAt, rulesIn, rulesOnly}
 use Rattle.tables.specs.Begun.{begun}
 use Rattle.tables.specs.Writing.{ruleText, written}
-use Rattle.tablecheck.proofs.Spelling.{name-fits}
+use Rattle.tables.proofs.Encoding.{name-fits}
 use Rattle.writer.specs.Spelt.{spelt, restOf}
 use Rattle.writer.proofs.Lines.{spelt-no, spelt-part, after, after-start, after-on, after-end, bodyText, line, body-bare, body-full}
 use Rattle.writer.proofs.Lines.{linesFrom, lines-start, written-is, lines-on, lines-end}
-use Rattle.writer.proofs.Lengths.{name-long}
-use Rattle.writer.proofs.Putting.{Left, put-none, put-put, left-start, left-length, left-room, left-on, left-byte, left-as, left-none, left-end}
+use Rattle.copying.proofs.Putting.{Left, put-none, put-put, left-start, left-length, left-room, left-on, left-byte, left-as, left-none, left-end}
 
--- a name has a place to be copied from, and room
-pub name-ready : (area : Bytes) (n a from end at size : ℕ) → from ≡ a * nameBytes → end ≡ a * nameBytes + length (nameAt area a) → a < n → n ≤ names
-    → nameArea ≤ length area → at + length (spelt area n a) ≤ size → (from ≤ end) × (end ≤ length area) × (at + (end - from) ≤ size)
-name-ready area n a from end at size e f l h g r =
-    (omega arith, omega (arith, name-fits area a), omega (arith, name-long area n a from end e f l))
+-- a name that stands from its first place up to its end
+module _ (area : Bytes) (n a from end : ℕ) (e : from ≡ a * nameBytes) (f : end ≡ a * nameBytes + length (nameAt area a)) (l : a < n) where
+  -- is a part of the area
+  pub name-inside : n ≤ names → nameArea ≤ length area → end ≤ length area
+  name-inside h g = omega (arith, name-fits area a)
 
--- it is copied from there, or there is none
-pub name-put : (area : Bytes) (n a from end at : ℕ) (old new : Bytes) → from ≡ a * nameBytes → end ≡ a * nameBytes + length (nameAt area a) → a < n
-    → new ≡ put at (part from (end - from) area) old → new ≡ put at (spelt area n a) old
-name-put area n a from end at old new e f l q = q ∙ ap (λ (w : Bytes). put at w old) (spelt-part area n a from end e f l)
+  -- there is room for that part
+  pub name-room : (at size : ℕ) → at + length (spelt area n a) ≤ size → at + length (part from (end - from) area) ≤ size
+  name-room at size r = omega (arith, ap length (spelt-part area n a from end e f l))
+
+  -- which is copied
+  pub name-put : (at : ℕ) (old new : Bytes) → new ≡ put at (part from (end - from) area) old → new ≡ put at (spelt area n a) old
+  name-put at old new q = q ∙ ap (λ (w : Bytes). put at w old) (spelt-part area n a from end e f l)
+
+  -- up to the place past it
+  pub name-next : (at k : ℕ) → k ≡ at + length (part from (end - from) area) → k ≡ at + length (spelt area n a)
+  name-next at k q = omega (arith, ap length (spelt-part area n a from end e f l))
 
 -- no name changes nothing
 pub none-put : (area : Bytes) (n a at : ℕ) (old : Bytes) → n ≤ a → old ≡ put at (spelt area n a) old

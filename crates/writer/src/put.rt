@@ -3,28 +3,12 @@ use limits::Book;
 use scan::cursor::Cursor;
 use tablecheck::names::name_end;
 ghost use mathlib.Core.Path.{_≡_};
-ghost use Prim.Native.Nat.{_+_, _-_, _<_, _≤_};
+ghost use Prim.Native.Nat.{_+_, _<_, _≤_};
 ghost use lib.ListN.{length};
 ghost use Rattle.limits.specs.Book.{names, nameArea, rules, bodyWords, bodyArea};
-ghost use Rattle.words.specs.Row.{part, put};
+ghost use Rattle.words.specs.Row.{put};
 ghost use Rattle.tables.specs.Begun.{begun};
 ghost use Rattle.writer.specs.Spelt.{spelt, restOf, lineOf, linesOf, textOf};
-
-// Copies the bytes of src from place `from` up to `to`, and returns the place after them.
-pub fn put_part(src: &[u8], from: usize, to: usize, text: &mut [u8], at: usize) -> usize
-    requires { ⌜ (from ≤ to) × (to ≤ length (now src)) × (at + (to - from) ≤ length (now text)) ⌝ }
-    ensures next { λ r. ⌜ r ≡ at + (to - from) ⌝ }
-    ensures text { λ r. ⌜ now (text .exit) ≡ put at (part from (to - from) (now (src .entry))) (now (text .entry)) ⌝ }
-{
-    let mut i = from;
-    let mut o = at;
-    while i < to {
-        text[o] = src[i];
-        o += 1;
-        i += 1;
-    }
-    o
-}
 
 // Name a of the first n, nothing where a is not below n.
 pub fn put_name(spellings: &[u8], n: usize, a: usize, text: &mut [u8], at: usize) -> usize
@@ -33,13 +17,9 @@ pub fn put_name(spellings: &[u8], n: usize, a: usize, text: &mut [u8], at: usize
     ensures text { λ r. ⌜ now (text .exit) ≡ put at (spelt (now (spellings .entry)) n a) (now (text .entry)) ⌝ }
 {
     if a < n {
-        return put_part(
-            spellings,
-            Book::name_at(a),
-            name_end(spellings, a),
-            text,
-            at,
-        );
+        let from = Book::name_at(a);
+        let end = name_end(spellings, a);
+        return copying::copy(&spellings[from..end], text, at);
     }
     at
 }
@@ -133,6 +113,6 @@ pub fn put_text(
     ensures { λ r. ⌜ now (text .exit) ≡ begun (textOf (now (spellings .entry)) (now (heads .entry)) (now (bodies .entry)) n m) (now (text .entry)) ⌝ }
 {
     let mark = Cursor::MARK;
-    let at = put_part(&mark, 0, Cursor::MARK_BYTES, text, 0);
+    let at = copying::copy(&mark, text, 0);
     put_rules(spellings, heads, bodies, n, m, text, at);
 }

@@ -4,7 +4,7 @@ use native.Mathlib.Omega.{arith}
 use borrow.Author.Tests.{not-true, not-false}
 use borrow.Author.Needs.{needs}
 use Rattle.scan.specs.declared.cursor.Cursor.{Cursor}
-use Rattle.reader.proofs.Forms.{remark}
+use Rattle.reader.proofs.Silent.{remark}
 use Rattle.reader.proofs.Stepping.{stayed-same, said-stays, booked-ready, stepped-silent, head-closed, blank-form, blank-end, stepped-fault}
 use Rattle.reader.proofs.Stepping.{stepped-full, stepped-over, stepped-rule}
 use Rattle.reader.proofs.step.Statement.{statement}

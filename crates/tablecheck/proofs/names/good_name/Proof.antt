@@ -3,7 +3,8 @@ use borrow.Author.Tests.{not-true, not-false}
 use native.Mathlib.Omega.{arith}
 use mathlib.Core.Path.{sym, _∙_}
 use Rattle.grammar.specs.Bytes.{folded}
-use Rattle.tablecheck.proofs.Spelling.{name-fits, good-none, good-strange, good-rest}
+use Rattle.tables.proofs.Encoding.{name-fits}
+use Rattle.tablecheck.proofs.Spelling.{good-none, good-strange, good-rest}
 use borrow.Author.Needs.{needs}
 use Rattle.tablecheck.proofs.names.good_name.Statement.{statement}
 use Rattle.tablecheck.proofs.names.good_name.Tie as tie

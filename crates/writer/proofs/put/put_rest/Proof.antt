@@ -8,7 +8,7 @@ use Rattle.sets.proofs.Walk.{walk-range}
 use Rattle.words.specs.Row as Row
 use Rattle.writer.specs.Spelt.{restOf}
 use Rattle.writer.proofs.Lines.{after}
-use Rattle.writer.proofs.Putting.{Left, left-length}
+use Rattle.copying.proofs.Putting.{Left, left-length}
 use Rattle.writer.proofs.Rules.{rest-start, rest-slot, rest-room, rest-on, rest-done, rest-next}
 use borrow.Author.Needs.{needs}
 use Rattle.writer.proofs.put.put_rest.Statement.{statement}

@@ -8,7 +8,7 @@ use Rattle.grammar.specs.Grammar.{joined}
 use Rattle.tables.specs.Areas.{namesIn, rulesIn, rulesOnly}
 use Rattle.tables.specs.Writing.{ruleText}
 use Rattle.writer.proofs.Lines.{linesFrom}
-use Rattle.writer.proofs.Putting.{Left}
+use Rattle.copying.proofs.Putting.{Left}
 use Rattle.writer.proofs.Rules.{lines-none, lines-length, lines-done, rule-room, end-slot, lines-more}
 use borrow.Author.Needs.{needs}
 use Rattle.writer.proofs.put.put_rules.Statement.{statement}

@@ -5,14 +5,11 @@ use borrow.Author.Needs.{needs}
 use Rattle.writer.proofs.put.put_text.Statement.{statement}
 use Rattle.writer.proofs.put.put_text.Tie as tie
 
-put-part-requires : tie.Need-put-part-requires
-put-part-requires c κs =
-    let a = c .before .before .before .before .before .before .args in (
-      search needs,
-      search needs,
-      mark-room (namesIn (a .spellings .now) (a .n)) (rulesOnly (a .heads .now) (a .bodies .now)) (a .m) (a .text .now)
-          (c .before .before .before .before .before .before .pre .1),
-    )
+copy-requires : tie.Need-copy-requires
+copy-requires c κs =
+    let a = c .before .before .before .before .before .before .args in
+    mark-room (namesIn (a .spellings .now) (a .n)) (rulesOnly (a .heads .now) (a .bodies .now)) (a .m) (a .text .now)
+    (c .before .before .before .before .before .before .pre .1)
 
 put-rules-requires : tie.Need-put-rules-requires
 put-rules-requires c κs =
@@ -20,7 +17,7 @@ put-rules-requires c κs =
     let p = c .before .before .before .before .before .before .before .before .before .before .pre in (
       p .0,
       lines-room (namesIn (a .spellings .now) (a .n)) (rulesOnly (a .heads .now) (a .bodies .now)) (a .m) (a .text .now) (p .1) _ _
-          (c .before .before .before .put-part .ensures .1) (c .before .before .before .put-part .ensures .0),
+          (c .before .before .before .copy .ensures .1) (c .before .before .before .copy .ensures .0),
     )
 
 returns : tie.Need-returns
@@ -28,10 +25,13 @@ returns c =
     let a = c .before .before .before .before .before .before .before .before .before .before .before .before .before .args in
     text-done (namesIn (a .spellings .now) (a .n)) (rulesOnly (a .heads .now) (a .bodies .now)) (a .m) (a .text .now)
     (c .before .before .before .before .before .before .before .before .before .before .before .before .before .pre .1) _ _
-    (c .before .before .before .before .before .before .put-part .ensures .1)
-    (c .before .before .before .before .before .before .put-part .ensures .0) _ (c .before .before .put-rules .ensures)
+    (c .before .before .before .before .before .before .copy .ensures .1)
+    (c .before .before .before .before .before .before .copy .ensures .0) _ (c .before .before .put-rules .ensures)
 
 pub put-text-spec : {M : Type 1} → statement M
 put-text-spec =
     tie.close
-    (tie.spec (λ c. search needs) put-part-requires put-rules-requires (λ c. search needs) returns)
+    (tie.spec
+    (λ c. search needs)
+    copy-requires
+    put-rules-requires (λ c. search needs) returns)

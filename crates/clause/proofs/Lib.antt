@@ -1,0 +1,8 @@
+pub mod Places
+pub mod Forms
+pub mod Rows
+pub mod Meeting
+pub mod Joining
+pub mod Heading
+pub mod Passing
+pub mod Saying

@@ -1,0 +1,96 @@
+// The rows, the start set and c of a program, its rules placed one by one.
+use limits::Book;
+ghost use mathlib.Core.Path.{_≡_};
+ghost use Prim.Native.Nat.{_*_, _<_, _≤_};
+ghost use lib.ListN.{length};
+ghost use Rattle.limits.specs.Book.{rules, atoms, wordBits, rowWords, bodyWords, bodyArea, rowArea};
+ghost use Rattle.sets.specs.Set.{pick, exists, count, only, union, emptySet};
+ghost use Rattle.program.specs.Standard.{hasBody, allRow, anyRow, startSet};
+ghost use Rattle.tables.specs.Areas.{filled, programIn};
+ghost use Rattle.tables.specs.Begun.{begun};
+ghost use Rattle.systems.specs.Rows.{rowIn, packed};
+ghost use Rattle.systems.specs.Rounds.{modelIn, withModel};
+ghost use Rattle.placing.specs.Partial.{withRow, withRows, Ready};
+
+// Each of the first `count` rows is its own atom alone.
+fn alone(all: &mut [u64], count: usize)
+    requires { ⌜ (count ≤ atoms) × (rowArea ≤ length (now all)) ⌝ }
+    ensures { λ r. ⌜ now (all .exit) ≡ begun (packed rowWords count only) (now (all .entry)) ⌝ }
+{
+    let mut i = 0;
+    while i < count {
+        let at = Book::row_at(i);
+        rows::clear::clear_tail64(all, at, at + Book::ROW_WORDS);
+        rows::write::insert(all, at, Book::ROW_WORDS, i);
+        i += 1;
+    }
+}
+
+// The rows of `count` atoms before any rule is placed; each area is cleared from its first unused row to its end.
+pub fn begin(count: usize, all: &mut [u64], any: &mut [u64], model: &mut [u64])
+    requires { ⌜ (count ≤ atoms) × (rowArea ≤ length (now all)) × (rowArea ≤ length (now any)) × (rowWords ≤ length (now model)) ⌝ }
+    ensures all { λ r. ⌜ now (all .exit) ≡ filled rowArea (packed rowWords count only) (now (all .entry)) ⌝ }
+    ensures any { λ r. ⌜ now (any .exit) ≡ filled rowArea (packed rowWords count (λ i. emptySet)) (now (any .entry)) ⌝ }
+    ensures model { λ r. ⌜ now (model .exit) ≡ withModel emptySet (now (model .entry)) ⌝ }
+{
+    let unused = Book::row_at(count);
+    alone(all, count);
+    rows::clear::clear_tail64(all, unused, Book::ROW_AREA);
+    rows::clear::clear_tail64(any, 0, unused);
+    rows::clear::clear_tail64(any, unused, Book::ROW_AREA);
+    rows::clear::clear_tail64(model, 0, Book::ROW_WORDS);
+}
+
+// Rule j at its home: its body becomes the home's row; where it has none, the home joins the start set. Returns whether it has a body.
+fn place(bodies: &[u64], j: usize, home: usize, all: &mut [u64], model: &mut [u64]) -> bool
+    requires { ⌜ (j < rules) × (home < atoms) × (bodyArea ≤ length (now bodies)) × (rowArea ≤ length (now all)) × (rowWords ≤ length (now model)) ⌝ }
+    ensures body { λ r. ⌜ r ≡ exists (bodyWords * wordBits) (rowIn bodyWords (now (bodies .entry)) j) ⌝ }
+    ensures all { λ r. ⌜ now (all .exit) ≡ pick r (withRow home (rowIn bodyWords (now (bodies .entry)) j) (now (all .entry))) (now (all .entry)) ⌝ }
+    ensures model { λ r. ⌜ now (model .exit) ≡ pick r (now (model .entry)) (withModel (union (modelIn (now (model .entry))) (only home)) (now (model .entry))) ⌝ }
+{
+    let from = Book::body_at(j);
+    if rows::read::empty(bodies, from, Book::BODY_WORDS) {
+        rows::write::insert(model, 0, Book::ROW_WORDS, home);
+        return false;
+    }
+    let row = Book::row_at(home);
+    rows::clear::clear_tail64(all, row, row + Book::ROW_WORDS);
+    rows::write::unite(all, row, bodies, from, Book::BODY_WORDS);
+    true
+}
+
+// The rules in book order, each at its home: its head, or its helper, which joins the head's "any" row. Returns c.
+pub fn fill(
+    heads: &[u16],
+    bodies: &[u64],
+    several: &[u64],
+    n: usize,
+    m: usize,
+    all: &mut [u64],
+    any: &mut [u64],
+    model: &mut [u64],
+) -> usize
+    requires { ⌜ Ready (now heads) (now bodies) (now several) n m (now all) (now any) (now model) ⌝ }
+    ensures c { λ r. ⌜ r ≡ count m (hasBody (programIn (now (heads .entry)) (now (bodies .entry)) n m)) ⌝ }
+    ensures all { λ r. ⌜ now (all .exit) ≡ withRows (programIn (now (heads .entry)) (now (bodies .entry)) n m) (allRow (programIn (now (heads .entry)) (now (bodies .entry)) n m)) (now (all .entry)) ⌝ }
+    ensures any { λ r. ⌜ now (any .exit) ≡ withRows (programIn (now (heads .entry)) (now (bodies .entry)) n m) (anyRow (programIn (now (heads .entry)) (now (bodies .entry)) n m)) (now (any .entry)) ⌝ }
+    ensures model { λ r. ⌜ now (model .exit) ≡ withModel (startSet (programIn (now (heads .entry)) (now (bodies .entry)) n m)) (now (model .entry)) ⌝ }
+{
+    let mut helper = n;
+    let mut c = 0;
+    let mut j = 0;
+    while j < m {
+        let head = heads[j] as usize;
+        let mut home = head;
+        if rows::read::member(several, 0, Book::BODY_WORDS, head) {
+            rows::write::insert(any, Book::row_at(head), Book::ROW_WORDS, helper);
+            home = helper;
+            helper += 1;
+        }
+        if place(bodies, j, home, all, model) {
+            c += 1;
+        }
+        j += 1;
+    }
+    c
+}
