@@ -1,0 +1,360 @@
+-- The solver's call: each way out, and every number exactly where document 01 gives it.
+-- Assumes nothing.
+use mathlib.Core.Path.{_≡_, refl, sym, ap, _∙_, subst}
+use mathlib.Core.Bool.{Bool, true, false, _||_}
+use mathlib.Core.List.{List, [], _++_}
+use Prim.Native.Nat.{ℕ, _-_, _≤_, _<_}
+use native.Mathlib.Omega.{arith}
+use lib.Dec.{ltb}
+use lib.ListN.{length, getD, drop, replicate}
+use borrow.Author.Tests.{ltb-true, ltb-false, lt-ltb, le-ltb, le-leb}
+use Rattle.limits.specs.Book.{textBytes, names, atoms, folds, rowWords, nameArea, rowArea, listingBytes}
+use Rattle.sets.specs.Set.{pick}
+use Rattle.sets.proofs.Logic.{either, clash, or-none, and-make, holds, fails, pick-true, pick-false}
+use Rattle.program.specs.Standard.{standard}
+use Rattle.grammar.specs.Bytes.{Bytes, Folding}
+use Rattle.grammar.specs.Grammar.{Clause}
+use Rattle.tables.specs.Numbering.{namesOf, programOf}
+use Rattle.tables.specs.Reading.{Reading, read, refused, bookOf, reading, Fits, Book, Refusal}
+use Rattle.tables.specs.Areas.{Areas, Outcome, short, nameRows, filledWith, tablesOf, refusal, outcome, readCall, nameAt, lookUp}
+use Rattle.tables.proofs.Calls.{refusal-range}
+use Rattle.tables.proofs.Judging.{reading-short}
+use Rattle.tables.proofs.Loop.{read-refused, refused-number, refused-line}
+use Rattle.tables.proofs.Encoding.{AllFine, length-nameRows, length-filled, filled-is, name-at, long-enough, not-short}
+use Rattle.tables.proofs.Theorems.{judged, read-fits, read-fine}
+use Rattle.solving.specs.Solve.{SolveAreas, SolveOutcome, shortAreas, solveRefusal, answerOf, solvedAreas, solveRead, solveCall}
+use Rattle.solving.specs.SolveClaims.{SolveLong, InRange, SolveJudges}
+
+-- Lengths of the areas.
+
+-- areas that are not too short have their stated sizes
+pub areas-long : (o : SolveAreas) → shortAreas o ≡ false → SolveLong o
+unfolding shortAreas
+areas-long o e =
+    let below : List ℕ → ℕ → Bool = λ xs n. ltb (length xs) n in
+    let listing : Bool = below (o .listing) listingBytes in
+    let model : Bool = below (o .model) rowWords in
+    let spare : Bool = below (o .spare) rowArea in
+    let any : Bool = below (o .any) rowArea in
+    let all : Bool = below (o .all) rowArea in
+    let a = or-none (short (o .tables)) (all || (any || (spare || (model || listing)))) e in
+    let b = or-none all (any || (spare || (model || listing))) (a .1) in
+    let c = or-none any (spare || (model || listing)) (b .1) in
+    let d = or-none spare (model || listing) (c .1) in
+    let f = or-none model listing (d .1) in
+    let tables = long-enough (o .tables) (a .0) in
+    record {
+      spellings = tables .0;
+      heads = tables .1;
+      bodies = tables .2;
+      all = ltb-false (length (o .all)) rowArea (b .0);
+      any = ltb-false (length (o .any)) rowArea (c .0);
+      spare = ltb-false (length (o .spare)) rowArea (d .0);
+      model = ltb-false (length (o .model)) rowWords (f .0);
+      listing = ltb-false (length (o .listing)) listingBytes (f .1);
+    }
+
+-- the other way, for the tables and for all
+pub long-tables : (o : SolveAreas) → SolveLong o → short (o .tables) ≡ false
+long-tables o h = not-short (o .tables) (h .spellings) (h .heads) (h .bodies)
+
+pub long-areas : (o : SolveAreas) → SolveLong o → shortAreas o ≡ false
+unfolding shortAreas
+long-areas o h = rw (
+  long-tables o h,
+  le-ltb (length (o .all)) rowArea (h .all),
+  le-ltb (length (o .any)) rowArea (h .any),
+  le-ltb (length (o .spare)) rowArea (h .spare),
+  le-ltb (length (o .model)) rowWords (h .model),
+  le-ltb (length (o .listing)) listingBytes (h .listing),
+)
+
+-- The ways out of the call.
+
+module _ (fold : ℕ → ℕ) (t : Bytes) (k : ℕ) (old : SolveAreas) where
+  -- an area too short
+  pub solve-short : shortAreas old ≡ true → solveCall fold t k old ≡ solveRefusal 1 0 (old .tables) old
+  unfolding solveCall pick
+  solve-short e = rw e
+
+  module _ (long : shortAreas old ≡ false) where
+    -- a text too long
+    pub solve-long-text : textBytes < length t → solveCall fold t k old ≡ solveRefusal 2 0 (old .tables) old
+    unfolding solveCall pick
+    solve-long-text l = rw (long, lt-ltb textBytes (length t) l)
+
+    module _ (fits : length t ≤ textBytes) where
+      -- folds over 8
+      pub solve-over-folds : folds < k → solveCall fold t k old ≡ solveRefusal 9 0 (old .tables) old
+      unfolding solveCall pick
+      solve-over-folds l = rw (long, le-ltb textBytes (length t) fits, lt-ltb folds k l)
+
+      -- else the text
+      pub solve-in-range : k ≤ folds → solveCall fold t k old ≡ solveRead (bookOf fold t) k old
+      unfolding solveCall pick
+      solve-in-range l = rw (long, le-ltb textBytes (length t) fits, le-ltb folds k l)
+
+-- what the solver does with what the text comes to: refused, over 256 atoms, or solved
+pub solve-refused : (number line k : ℕ) (old : SolveAreas)
+    → solveRead (refused number line) k old ≡ solveRefusal number line (refusal number line (old .tables) .areas) old
+unfolding solveRead
+solve-refused number line k old = refl
+
+pub solve-over-atoms : (cs : List Clause) (k : ℕ) (old : SolveAreas) → atoms < standard (programOf cs) .atoms
+    → solveRead (read cs) k old ≡ solveRefusal 8 0 (tablesOf cs (old .tables)) old
+unfolding solveRead pick
+solve-over-atoms cs k old l = rw (lt-ltb atoms (standard (programOf cs) .atoms) l)
+
+pub solve-solved : (cs : List Clause) (k : ℕ) (old : SolveAreas) → standard (programOf cs) .atoms ≤ atoms
+    → solveRead (read cs) k old ≡ record { answer = answerOf (programOf cs) k; areas = solvedAreas cs k old }
+unfolding solveRead pick
+solve-solved cs k old l = rw (le-ltb atoms (standard (programOf cs) .atoms) l)
+
+-- What a text comes to.
+
+module _ (fold : ℕ → ℕ) (folding : Folding fold) (t : Bytes) where
+  -- a text is a book in one way only
+  pub same-book : (cs ds : List Clause) → Book fold t cs → Book fold t ds → cs ≡ ds
+  same-book cs ds b d =
+      let e : read cs ≡ read ds = sym (judged fold folding .accepted t cs .1 b) ∙ judged fold folding .accepted t ds .1 d in
+      cc
+
+  -- the look-up has the names of a book that was read
+  pub look-up-read : (cs : List Clause) → bookOf fold t ≡ read cs → (old : Areas) → nameArea ≤ length (old .spellings)
+      → (a : ℕ) → a < length (namesOf cs) → lookUp (tablesOf cs old .spellings) (length (namesOf cs)) a ≡ getD (namesOf cs) a []
+  unfolding lookUp tablesOf filledWith
+  look-up-read cs q old h a l =
+      let ns : List Bytes = namesOf cs in
+      let fine : AllFine ns = read-fine fold folding t cs q in
+      let area : Bytes = tablesOf cs old .spellings in
+      let rest : List ℕ = replicate (nameArea - length (nameRows ns)) 0 ++ drop nameArea (old .spellings) in
+      let few : length ns ≤ names = read-fits fold folding t cs q .1 in
+      let rows : length (nameRows ns) ≤ nameArea = omega (arith, length-nameRows ns (λ a l. fine a l .0)) in
+      let long : nameArea ≤ length area = omega (arith, length-filled nameArea (nameRows ns) (old .spellings) rows h) in
+      pick-true (nameAt area a) []
+      (and-make (lt-ltb a (length ns) l) (and-make (le-leb (length ns) names few) (le-leb nameArea (length area) long)))
+      ∙ ap (λ (x : List ℕ). nameAt x a) (filled-is nameArea (nameRows ns) (old .spellings)) ∙ name-at ns rest fine a l
+
+-- Every number exactly where document 01 gives it.
+
+-- a refusal without a line leaves the tables as they were
+kept-tables : (q : ℕ) (o : Areas) → refusal q 0 o .areas ≡ o
+unfolding refusal pick
+kept-tables q o = refl
+
+-- a refusal under the number j, of tables that the reader leaves
+left-tables : (q j line : ℕ) (left : Areas) (old : SolveAreas) → left ≡ refusal q line (old .tables) .areas → q ≡ j
+    → solveRefusal q line left old ≡ solveRefusal j line (refusal j line (old .tables) .areas) old
+left-tables q j line left old e f =
+    ap (λ (o : Areas). solveRefusal q line o old) e ∙ ap (λ (n : ℕ). solveRefusal n line (refusal n line (old .tables) .areas) old) f
+
+module _ (fold : ℕ → ℕ) (folding : Folding fold) (t : Bytes) (k : ℕ) (old : SolveAreas) where
+  -- what is claimed of an outcome
+  abbrev Judges : SolveOutcome → Type 0
+  Judges = SolveJudges fold t k old
+
+  -- what the reader leaves, where areas and text are in range
+  reader-leaves : InRange t k old → (x : Reading) → bookOf fold t ≡ x → readCall fold t (old .tables) ≡ outcome x (old .tables)
+  unfolding readCall
+  reader-leaves range x e =
+      pick-false (refusal 1 0 (old .tables)) (outcome (reading fold t) (old .tables)) (long-tables old (range .0))
+      ∙ ap (λ (y : Reading). outcome y (old .tables)) (reading-short fold t (range .1) ∙ e)
+
+  -- The ways out, each with what it is claimed to be.
+
+  -- an area too short
+  way-short : (SolveLong old → ⊥) → Judges (solveRefusal 1 0 (old .tables) old)
+  way-short h = record {
+    accepts = fails (λ z. omega arith) (λ p. h (p .0 .0));
+    short = holds refl h;
+    long-text = fails (λ z. omega arith) (λ p. h (p .0));
+    over-folds = fails (λ z. omega arith) (λ p. h (p .0));
+    text = λ q line low high. fails (λ z. omega (arith, z .0)) (λ p. h (p .0 .0));
+    over-atoms = fails (λ z. omega arith) (λ p. h (p .0 .0));
+    no-other = omega arith;
+    solved = λ cs b z. absurd (omega arith);
+    left-8 = λ cs b z. absurd (omega arith);
+    left = λ q z n m. left-tables 1 q 0 (old .tables) old (sym (kept-tables 1 (old .tables))) z;
+    kept = λ h. refl;
+    as-read = λ range. absurd (h (range .0));
+  }
+
+  module _ (long : SolveLong old) where
+    -- a text too long
+    way-long : textBytes < length t → Judges (solveRefusal 2 0 (old .tables) old)
+    way-long l = record {
+      accepts = fails (λ z. omega arith) (λ p. omega (arith, p .0 .1));
+      short = fails (λ z. omega arith) (λ h. h long);
+      long-text = holds refl (long, l);
+      over-folds = fails (λ z. omega arith) (λ p. omega (arith, p .1));
+      text = λ q line low high. fails (λ z. omega (arith, z .0)) (λ p. omega (arith, p .0 .1));
+      over-atoms = fails (λ z. omega arith) (λ p. omega (arith, p .0 .1));
+      no-other = omega arith;
+      solved = λ cs b z. absurd (omega arith);
+      left-8 = λ cs b z. absurd (omega arith);
+      left = λ q z n m. left-tables 2 q 0 (old .tables) old (sym (kept-tables 2 (old .tables))) z;
+      kept = λ h. refl;
+      as-read = λ range. absurd (omega (arith, range .1));
+    }
+
+    module _ (fits : length t ≤ textBytes) where
+      -- folds over 8
+      way-folds : folds < k → Judges (solveRefusal 9 0 (old .tables) old)
+      way-folds l = record {
+        accepts = fails (λ z. omega arith) (λ p. omega (arith, p .0 .2));
+        short = fails (λ z. omega arith) (λ h. h long);
+        long-text = fails (λ z. omega arith) (λ p. omega (arith, p .1));
+        over-folds = holds refl (long, fits, l);
+        text = λ q line low high. fails (λ z. omega (arith, z .0)) (λ p. omega (arith, p .0 .2));
+        over-atoms = fails (λ z. omega arith) (λ p. omega (arith, p .0 .2));
+        no-other = omega arith;
+        solved = λ cs b z. absurd (omega arith);
+        left-8 = λ cs b z. absurd (omega arith);
+        left = λ q z n m. left-tables 9 q 0 (old .tables) old (sym (kept-tables 9 (old .tables))) z;
+        kept = λ h. refl;
+        as-read = λ range. absurd (omega (arith, range .2));
+      }
+
+      module _ (few : k ≤ folds) where
+        -- areas, text and folds in range
+        abbrev range : InRange t k old
+        range = (long, fits, few)
+
+        module _ (a b : ℕ) (e : bookOf fold t ≡ refused a b) where
+          -- a text refused is no book
+          no-book : {X : Type 0} (cs : List Clause) → Book fold t cs → X
+          no-book cs x = read-refused cs a b (sym (judged fold folding .accepted t cs .1 x) ∙ e)
+
+          -- it has that refusal alone
+          way-refused : Judges (solveRefusal a b (refusal a b (old .tables) .areas) old)
+          unfolding outcome
+          way-refused =
+              let r : (3 ≤ a) × (a ≤ 7) = refusal-range fold t a b (judged fold folding .refuses t a b .0 e) in
+              record {
+                accepts = fails (λ z. omega (arith, r .0)) (λ p. no-book (p .1 .0) (p .1 .1));
+                short = fails (λ z. omega (arith, r .0)) (λ h. h long);
+                long-text = fails (λ z. omega (arith, r .0)) (λ p. omega (arith, p .1));
+                over-folds = fails (λ z. omega (arith, r .1)) (λ p. omega (arith, p .2));
+                text = λ q line low high. (
+                  λ z. (range, judged fold folding .refuses t q line .0 (e ∙ ap (λ (n : ℕ). refused n b) (z .0) ∙ ap (refused q) (z .1))),
+                  λ p.
+                      let same : refused a b ≡ refused q line = sym e ∙ judged fold folding .refuses t q line .1 (p .1) in
+                      (refused-number a b q line same, refused-line a b q line same),
+                );
+                over-atoms = fails (λ z. omega (arith, r .1)) (λ p. no-book (p .1 .0) (p .1 .1));
+                no-other = omega (arith, r .1);
+                solved = λ cs x z. no-book cs x;
+                left-8 = λ cs x z. no-book cs x;
+                left = λ q z n m. left-tables a q b (refusal a b (old .tables) .areas) old refl z;
+                kept = λ h. absurd (h range);
+                as-read = λ p. ap (λ (o : Outcome). o .areas) (sym (reader-leaves range (refused a b) e));
+              }
+
+        module _ (cs : List Clause) (e : bookOf fold t ≡ read cs) where
+          -- the text is a book
+          abbrev book : Book fold t cs
+          book = judged fold folding .accepted t cs .0 e
+
+          -- it has no refusal
+          no-refusal : {X : Type 0} (q line : ℕ) → Refusal fold t q line → X
+          no-refusal q line x = read-refused cs q line (sym e ∙ judged fold folding .refuses t q line .1 x)
+
+          -- its clauses and so its atoms are these alone
+          as-cs : (ds : List Clause) → Book fold t ds → cs ≡ ds
+          as-cs ds d = same-book fold folding t cs ds book d
+
+          same-atoms : (ds : List Clause) → Book fold t ds → standard (programOf cs) .atoms ≡ standard (programOf ds) .atoms
+          same-atoms ds d = ap (λ (xs : List Clause). standard (programOf xs) .atoms) (as-cs ds d)
+
+          -- over 256 atoms
+          way-over : atoms < standard (programOf cs) .atoms → Judges (solveRefusal 8 0 (tablesOf cs (old .tables)) old)
+          unfolding outcome
+          way-over l = record {
+            accepts = fails (λ z. omega arith) (λ p. omega (arith, p .1 .2, same-atoms (p .1 .0) (p .1 .1)));
+            short = fails (λ z. omega arith) (λ h. h long);
+            long-text = fails (λ z. omega arith) (λ p. omega (arith, p .1));
+            over-folds = fails (λ z. omega arith) (λ p. omega (arith, p .2));
+            text = λ q line low high. fails (λ z. omega (arith, z .0)) (λ p. no-refusal q line (p .1));
+            over-atoms = holds refl (range, (cs, book, l));
+            no-other = omega arith;
+            solved = λ ds d z. absurd (omega arith);
+            left-8 = λ ds d z. ap (λ (xs : List Clause). solveRefusal 8 0 (tablesOf xs (old .tables)) old) (as-cs ds d);
+            left = λ q z n m. absurd (m (sym z));
+            kept = λ h. absurd (h range);
+            as-read = λ p. ap (λ (o : Outcome). o .areas) (sym (reader-leaves range (read cs) e));
+          }
+
+          -- and no more
+          way-solved : standard (programOf cs) .atoms ≤ atoms → Judges (record { answer = answerOf (programOf cs) k; areas = solvedAreas cs k old })
+          unfolding outcome answerOf solvedAreas
+          way-solved l = record {
+            accepts = holds refl (range, (cs, book, l));
+            short = fails (λ z. omega arith) (λ h. h long);
+            long-text = fails (λ z. omega arith) (λ p. omega (arith, p .1));
+            over-folds = fails (λ z. omega arith) (λ p. omega (arith, p .2));
+            text = λ q line low high. fails (λ z. omega (arith, z .0)) (λ p. no-refusal q line (p .1));
+            over-atoms = fails (λ z. omega arith) (λ p. omega (arith, p .1 .2, same-atoms (p .1 .0) (p .1 .1)));
+            no-other = omega arith;
+            solved = λ ds d z. ap (λ (xs : List Clause). record { answer = answerOf (programOf xs) k; areas = solvedAreas xs k old }) (as-cs ds d);
+            left-8 = λ ds d z. absurd (omega arith);
+            left = λ q z n m. absurd (n (sym z));
+            kept = λ h. absurd (h range);
+            as-read = λ p. ap (λ (o : Outcome). o .areas) (sym (reader-leaves range (read cs) e));
+          }
+
+        -- by what the text comes to
+        by-reading : (x : Reading) → bookOf fold t ≡ x → Judges (solveRead x k old)
+        by-reading (refused a b) e = subst Judges (sym (solve-refused a b k old)) (way-refused a b e)
+        by-reading (read cs) e =
+            let m : ℕ = standard (programOf cs) .atoms in
+            either (ltb atoms m)
+            (λ u. subst Judges (sym (solve-over-atoms cs k old (ltb-true atoms m u))) (way-over cs e (ltb-true atoms m u)))
+            (λ u. subst Judges (sym (solve-solved cs k old (ltb-false atoms m u))) (way-solved cs e (ltb-false atoms m u)))
+
+  -- what is claimed of the solver's call
+  pub solve-judges : SolveJudges fold t k old (solveCall fold t k old)
+  solve-judges =
+      either (shortAreas old)
+      (λ e. subst Judges (sym (solve-short fold t k old e)) (way-short (λ long. clash e (long-areas old long))))
+      (λ e.
+      let long : SolveLong old = areas-long old e in
+      either (ltb textBytes (length t))
+      (λ l.
+      let over : textBytes < length t = ltb-true textBytes (length t) l in
+      subst Judges (sym (solve-long-text fold t k old e over)) (way-long long over))
+      (λ l.
+      let fits : length t ≤ textBytes = ltb-false textBytes (length t) l in
+      either (ltb folds k)
+      (λ f.
+      let over : folds < k = ltb-true folds k f in
+      subst Judges (sym (solve-over-folds fold t k old e fits over)) (way-folds long fits over))
+      (λ f.
+      let few : k ≤ folds = ltb-false folds k f in
+      subst Judges (sym (solve-in-range fold t k old e fits few)) (by-reading long fits few (bookOf fold t) refl))))
+
+-- everything known of an accepted call
+pub record Solved (fold : ℕ → ℕ) (t : Bytes) (k : ℕ) (old : SolveAreas) : Type 0 where
+  pub cs : List Clause
+  pub book : Book fold t cs
+  pub reads : bookOf fold t ≡ read cs
+  pub fits : Fits cs
+  pub range : InRange t k old
+  pub few : standard (programOf cs) .atoms ≤ atoms
+  pub is : solveCall fold t k old ≡ record { answer = answerOf (programOf cs) k; areas = solvedAreas cs k old }
+
+-- what is known where the number is 0
+pub solved-of : (fold : ℕ → ℕ) → Folding fold → (t : Bytes) (k : ℕ) (old : SolveAreas)
+    → solveCall fold t k old .answer .number ≡ 0 → Solved fold t k old
+solved-of fold folding t k old z =
+    let j : SolveJudges fold t k old (solveCall fold t k old) = solve-judges fold folding t k old in
+    let cs : List Clause = j .accepts .0 z .1 .0 in
+    let book : Book fold t cs = j .accepts .0 z .1 .1 in
+    record {
+      cs = cs;
+      book = book;
+      reads = judged fold folding .accepted t cs .1 book;
+      fits = book .fits;
+      range = j .accepts .0 z .0;
+      few = j .accepts .0 z .1 .2;
+      is = j .solved cs book z;
+    }

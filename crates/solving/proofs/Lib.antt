@@ -1,0 +1,10 @@
+pub mod Staged
+pub mod Judging
+pub mod Past
+pub mod Rounds
+pub mod Models
+pub mod Holds
+pub mod Plain
+pub mod Decimal
+pub mod Lists
+pub mod Theorems

@@ -1,0 +1,9 @@
+pub mod Plain
+pub mod Listing
+pub mod Solve
+pub mod Models
+pub mod Held
+pub mod PlainClaims
+pub mod ListingClaims
+pub mod SolveClaims
+pub mod Claims

@@ -1,0 +1,1 @@
+// What the plain route, the listing and the solver answer and leave, and demand 3: mathematics only.
