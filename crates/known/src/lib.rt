@@ -1,0 +1,1 @@
+// The books that document 01 settles: mathematics only.
