@@ -1,0 +1,4 @@
+pub mod Stepping
+pub mod Consequences
+pub mod Turns
+pub mod Calls
