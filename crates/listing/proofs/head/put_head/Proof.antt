@@ -1,0 +1,111 @@
+-- `listing::head::put_head` meets its contract. Four fields and the line end, one after the other. Assumes nothing.
+use native.Mathlib.Omega.{arith}
+use Rattle.listing.proofs.Heads.{names-room, held-room, folds-room, rounds-room, end-slot, head-length, head-put, head-next}
+use borrow.Author.Needs.{needs}
+use Rattle.listing.proofs.head.put_head.Statement.{statement}
+use Rattle.listing.proofs.head.put_head.Tie as tie
+
+put-field-requires : tie.Need-put-field-requires
+put-field-requires c κs =
+    let s = c .before .before .before in
+    let a = s .args in
+    names-room (a .n) (a .held) (a .folds) (a .rounds) (a .text .now) (s .pre)
+
+put-field-requires-2 : tie.Need-put-field-requires-2
+put-field-requires-2 c κs =
+    let w = c .before .before .before .before in
+    let s = w .before .before .before .before in
+    let a = s .args in
+    held-room (a .n) (a .held) (a .folds) (a .rounds) (a .text .now) (s .pre) _ _ (w .put-field .ensures .1) (w .put-field .ensures .0)
+
+put-field-requires-3 : tie.Need-put-field-requires-3
+put-field-requires-3 c κs =
+    let x = c .before .before .before .before in
+    let w = x .before .before .before .before .before in
+    let s = w .before .before .before .before in
+    let a = s .args in
+    folds-room (a .n) (a .held) (a .folds) (a .rounds) (a .text .now) (s .pre) _ _ (w .put-field .ensures .1) (w .put-field .ensures .0)
+    _ _ (x .put-field2 .ensures .1) (x .put-field2 .ensures .0)
+
+put-field-requires-4 : tie.Need-put-field-requires-4
+put-field-requires-4 c κs =
+    let y = c .before .before .before .before in
+    let x = y .before .before .before .before .before in
+    let w = x .before .before .before .before .before in
+    let s = w .before .before .before .before in
+    let a = s .args in
+    rounds-room (a .n) (a .held) (a .folds) (a .rounds) (a .text .now) (s .pre) _ _ (w .put-field .ensures .1) (w .put-field .ensures .0)
+    _ _ (x .put-field2 .ensures .1) (x .put-field2 .ensures .0) _ _ (y .put-field3 .ensures .1) (y .put-field3 .ensures .0)
+
+slice-write-text : tie.Need-slice-write-text
+slice-write-text c =
+    let z = c .before .before in
+    let y = z .before .before .before .before .before in
+    let x = y .before .before .before .before .before in
+    let w = x .before .before .before .before .before in
+    let s = w .before .before .before .before in
+    let a = s .args in
+    end-slot (a .n) (a .held) (a .folds) (a .rounds) (a .text .now) (s .pre) _ _ (w .put-field .ensures .1) (w .put-field .ensures .0)
+    _ _ (x .put-field2 .ensures .1) (x .put-field2 .ensures .0) _ _ (y .put-field3 .ensures .1) (y .put-field3 .ensures .0)
+    _ _ (z .put-field4 .ensures .1) (z .put-field4 .ensures .0)
+
+add-result : tie.Need-add-result
+add-result c =
+    let z = c .before .before in
+    let y = z .before .before .before .before .before in
+    let x = y .before .before .before .before .before in
+    let w = x .before .before .before .before .before in
+    let s = w .before .before .before .before in
+    let a = s .args in
+    omega (
+      arith,
+      s .good,
+      head-next (a .n) (a .held) (a .folds) (a .rounds) (a .text .now) (s .pre) _ _ (w .put-field .ensures .1) (w .put-field .ensures .0)
+          _ _ (x .put-field2 .ensures .1) (x .put-field2 .ensures .0) _ _ (y .put-field3 .ensures .1) (y .put-field3 .ensures .0)
+          _ _ (z .put-field4 .ensures .1) (z .put-field4 .ensures .0),
+    )
+
+same-length : tie.Need-same-length
+same-length c =
+    let z = c .before .before in
+    let y = z .before .before .before .before .before in
+    let x = y .before .before .before .before .before in
+    let w = x .before .before .before .before .before in
+    let s = w .before .before .before .before in
+    let a = s .args in
+    head-length (a .n) (a .held) (a .folds) (a .rounds) (a .text .now) (s .pre) _ _ (w .put-field .ensures .1) (w .put-field .ensures .0)
+    _ _ (x .put-field2 .ensures .1) (x .put-field2 .ensures .0) _ _ (y .put-field3 .ensures .1) (y .put-field3 .ensures .0)
+    _ _ (z .put-field4 .ensures .1) (z .put-field4 .ensures .0)
+
+returns : tie.Need-returns
+returns c =
+    let z = c .before .before in
+    let y = z .before .before .before .before .before in
+    let x = y .before .before .before .before .before in
+    let w = x .before .before .before .before .before in
+    let s = w .before .before .before .before in
+    let a = s .args in (
+      head-next (a .n) (a .held) (a .folds) (a .rounds) (a .text .now) (s .pre) _ _ (w .put-field .ensures .1) (w .put-field .ensures .0)
+          _ _ (x .put-field2 .ensures .1) (x .put-field2 .ensures .0) _ _ (y .put-field3 .ensures .1) (y .put-field3 .ensures .0)
+          _ _ (z .put-field4 .ensures .1) (z .put-field4 .ensures .0),
+      head-put (a .n) (a .held) (a .folds) (a .rounds) (a .text .now) (s .pre) _ _ (w .put-field .ensures .1) (w .put-field .ensures .0)
+          _ _ (x .put-field2 .ensures .1) (x .put-field2 .ensures .0) _ _ (y .put-field3 .ensures .1) (y .put-field3 .ensures .0)
+          _ _ (z .put-field4 .ensures .1) (z .put-field4 .ensures .0),
+    )
+
+pub put-head-spec : {M : Type 1} → statement M
+put-head-spec =
+    tie.close
+    (tie.spec
+    (λ c. search needs)
+    put-field-requires
+    (λ c. search needs)
+    put-field-requires-2
+    (λ c. search needs)
+    put-field-requires-3
+    (λ c. search needs)
+    put-field-requires-4
+    slice-write-text
+    add-result
+    same-length
+    returns)
