@@ -1,0 +1,3 @@
+pub mod Range
+pub mod Listed
+pub mod Calls
