@@ -1,4 +1,4 @@
-// The three calls, each with what is printed of it: the answer, a checksum of each area that it was lent, and the rows of few atoms whole.
+// The three calls and the plain route, each with what is printed of it: the answer, a checksum of each area that it was lent, and the rows of few atoms whole.
 use crate::print;
 
 // This many atoms are few.
@@ -77,4 +77,20 @@ fn print_run(r: rounds::Answer, all: &[u64], any: &[u64], model: &[u64], count: 
 pub fn run(all: &[u64], any: &[u64], model: &mut [u64], count: usize) {
     let r = rounds::run(all, any, model, count);
     print_run(r, all, any, model, count);
+}
+
+fn print_plain(r: plain::Answer, heads: &[u16], bodies: &[u64], model: &[u64]) {
+    print::text(b"plain");
+    print::number(r.number as u64);
+    print::number(r.held as u64);
+    print::number(r.rounds as u64);
+    print::total16(heads);
+    print::total64(bodies);
+    print::total64(model);
+    print::text(b"\n");
+}
+
+pub fn plainly(heads: &[u16], bodies: &[u64], n: usize, m: usize, model: &mut [u64]) {
+    let r = plain::run(heads, bodies, n, m, model);
+    print_plain(r, heads, bodies, model);
 }

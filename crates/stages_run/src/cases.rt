@@ -1,7 +1,7 @@
 // Files of cases: calls on tables and rows that no book gives. Each line begins with a letter:
 //   # ..               a title, with which a case begins
 //   h b a o m i v ..   the entries of heads, bodies, "all", "any" or model from number i on become these
-//   S n m . . . . .    standardises, lending so many entries of heads, bodies, "all", "any", model
+//   S n m . . . . .    standardises, lending so many entries of heads, bodies, "all", "any", model; and goes the plain route with those tables
 //   F count k . .      folds, lending so many entries of "all" and spare
 //   R count . . .      runs, after the fold if there is one, lending so many entries of "all", "any", model
 // In a case with S the tables begin as zeros, in one without it "all", "any" and model do; all else begins as marks.
@@ -74,6 +74,17 @@ fn standardise(text: &[u8], at: usize, heads: &[u16], bodies: &[u64]) {
     }
 }
 
+// Goes the plain route as the same line says.
+fn plainly(text: &[u8], at: usize, heads: &[u16], bodies: &[u64]) {
+    let mut model = [Area::MARK64; Area::MODEL];
+    let n = lines::size(text, at, 1);
+    let m = lines::size(text, at, 2);
+    let c = lines::size(text, at, 7);
+    if c <= Area::MODEL {
+        calls::plainly(heads, bodies, n, m, &mut model[0..c]);
+    }
+}
+
 fn tables(text: &[u8], at: usize) {
     let mut wide = [Area::MARK16 as u64; Area::HEADS];
     let mut heads = [Area::MARK16; Area::HEADS];
@@ -84,6 +95,7 @@ fn tables(text: &[u8], at: usize) {
     let a = lines::size(text, at, 3);
     let b = lines::size(text, at, 4);
     standardise(text, at, front16(&heads, a), front64(&bodies, b));
+    plainly(text, at, front16(&heads, a), front64(&bodies, b));
 }
 
 // Folds, where there is a line for it.

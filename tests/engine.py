@@ -1,0 +1,247 @@
+# A reader and an engine written apart from ours, from document 01 alone, which the checks of tests/ share. The reader goes by regular
+# expressions over whole lines. Rows are Python sets, standardised by the four kinds of document 01; no fold is made, the rows after k folds
+# are the atoms reached in exactly 2^k steps along rows; rounds go by their definition. What is held, a work list over the spellings of the
+# rules says, and for few names every model there is.
+import functools
+import itertools
+import os
+import re
+import sys
+
+ROOT = os.path.join(os.path.dirname(os.path.abspath(__file__)), "..")
+MARK = b"DPB 0001\n"
+NAME = rb"[A-Za-z0-9._-]+"
+RULE = re.compile(rb"[ \t]*(" + NAME + rb")[ \t]*:[ \t]*(" + NAME + rb"(?:[ \t]+" + NAME + rb")*)?[ \t]*")
+# what the areas of the test programs hold before a call, and the entries that they lend past the stated sizes
+JUNK8, JUNK16, JUNK64, GUARD = 165, 4660, 81985529216486895, 4
+MOST = 2**64 - 1
+
+
+class Refused(Exception):
+    """a refusal's number and line"""
+
+    def __init__(self, number, line=0):
+        super().__init__(number, line)
+        self.number, self.line = number, line
+
+
+# Books.
+
+
+def text_of(lines):
+    """the book with these lines after its mark"""
+    return MARK + b"".join(line + b"\n" for line in lines)
+
+
+def read(text):
+    """names and rules (head, set of numbers) of a book"""
+    if len(text) > 16384:
+        raise Refused(2)
+    if text[:9] != MARK:
+        raise Refused(3)
+    if not text.endswith(b"\n"):
+        raise Refused(4)
+    numbers, rules = {}, []
+    for place, line in enumerate(text.split(b"\n")[1:-1]):
+        if line.startswith(b"#") or not line.strip(b" \t"):
+            continue
+        form = RULE.fullmatch(line)
+        spelt = [form[1]] + (form[2] or b"").split() if form else []
+        if not form or any(len(name) > 32 for name in spelt):
+            raise Refused(5, place + 2)
+        if len(rules) == 256:
+            raise Refused(7, place + 2)
+        for name in spelt:
+            numbers.setdefault(name.lower(), len(numbers))
+        if len(numbers) > 128:
+            raise Refused(6, place + 2)
+        head, *body = [numbers[name.lower()] for name in spelt]
+        rules.append((head, set(body)))
+    return list(numbers), rules
+
+
+# What a book holds.
+
+
+def least(rules):
+    """the names held by rules (head, set), by a work list: how many names each rule still waits for"""
+    waits = [len(body) for _, body in rules]
+    users = {}
+    for j, (_, body) in enumerate(rules):
+        for name in body:
+            users.setdefault(name, []).append(j)
+    todo, held = [head for head, body in rules if not body], set()
+    while todo:
+        name = todo.pop()
+        if name not in held:
+            held.add(name)
+            for j in users.get(name, []):
+                waits[j] -= 1
+                if waits[j] == 0:
+                    todo.append(rules[j][0])
+    return held
+
+
+def in_every_model(rules):
+    """the names that lie in every model of rules (head, set), of all the sets of names that there are"""
+    names = sorted({name for head, body in rules for name in (head, *body)})
+    bit = {name: 1 << i for i, name in enumerate(names)}
+    masks = [(bit[head], sum(bit[name] for name in body)) for head, body in rules]
+    common = (1 << len(names)) - 1
+    for model in range(1 << len(names)):
+        if all(model & head or body & ~model for head, body in masks):
+            common &= model
+    return {name for name in names if common & bit[name]}
+
+
+def plain(rules):
+    """the rounds of the plain route, the last included, and its last set"""
+    v, count = set(), 0
+    while True:
+        after = {head for head, body in rules if body <= v}
+        count += 1
+        if after == v:
+            return count, v
+        v = after
+
+
+# Rows.
+
+
+def standardised(n, rules):
+    """"all" rows, "any" rows, start set, c and h for rules (head, set of numbers) over n names"""
+    ways = [[j for j, (head, _) in enumerate(rules) if head == a] for a in range(n)]
+    helpers = {}
+    for j, (head, _) in enumerate(rules):
+        if len(ways[head]) > 1:
+            helpers[j] = n + len(helpers)
+    atoms = range(n + len(helpers))
+    if len(atoms) > 256:
+        raise Refused(8)
+    rows, ors, start, counted = {}, {}, set(), set()
+
+    def over(atom, body):
+        rows[atom] = set(body) or {atom}
+        (counted if body else start).add(atom)
+
+    for a in range(n):
+        if len(ways[a]) == 0:
+            rows[a] = {a}
+        elif len(ways[a]) == 1:
+            over(a, rules[ways[a][0]][1])
+        else:
+            rows[a], ors[a] = {a}, {helpers[j] for j in ways[a]}
+    for j, helper in helpers.items():
+        over(helper, rules[j][1])
+    return [rows[a] for a in atoms], [ors.get(a, set()) for a in atoms], start, len(counted), len(ors)
+
+
+def reached(rows, steps):
+    """for each atom, those reached from it in exactly that many steps along rows"""
+    onward = functools.lru_cache(None)(lambda here: frozenset().union(*(rows[a] for a in here)))
+    ends = []
+    for a in range(len(rows)):
+        here = frozenset([a])
+        for _ in range(steps):
+            here = onward(here)
+        ends.append(here)
+    return ends
+
+
+def rounds(rows, ors, start):
+    """the rounds, the last included, and the last set"""
+    v, count = set(start), 0
+    while True:
+        after = {a for a in range(len(rows)) if (ors[a] & v if ors[a] else rows[a] <= v)}
+        count += 1
+        if count == 1 and v - after:
+            raise Refused(11)
+        if after == v:
+            return count, v
+        v = after
+
+
+# Areas: lists of entries.
+
+
+@functools.lru_cache(64)
+def sets(entries, width):
+    """the rows of an area"""
+    masks = (sum(x << 64 * k for k, x in enumerate(entries[i:i + width])) for i in range(0, len(entries), width))
+    return tuple(frozenset(k for k in range(mask.bit_length()) if mask >> k & 1) for mask in masks)
+
+
+def words(rows, width, size):
+    """an area of that size with these rows"""
+    area = [0] * size
+    for i, row in enumerate(rows):
+        for a in row:
+            area[i * width + a // 64] |= 1 << a % 64
+    return area
+
+
+def spellings(names):
+    """the name area"""
+    return list(b"".join(name.ljust(32, b"\0") for name in names).ljust(4096, b"\0"))
+
+
+def tables(rules):
+    """the areas of heads and of bodies"""
+    return [head for head, _ in rules] + [0] * (256 - len(rules)), words([body for _, body in rules], 2, 512)
+
+
+@functools.lru_cache(4096)
+def total(entries):
+    """the checksum of an area that the test programs print: each entry is three figures to the base 65521. Where an entry stands several times
+    in a row, s becomes s * step + x as often: by the sum of a geometric series"""
+    s, step = 0, 31**3 % 65521
+    for entry, run in itertools.groupby(entries):
+        times = sum(1 for _ in run)
+        x = (entry % 65521 * 961 + entry // 65521 % 65521 * 31 + entry // 65521**2) % 65521
+        power = pow(step, times, 65521)
+        s = (s * power + x * (power - 1) * pow(step - 1, -1, 65521)) % 65521
+    return s
+
+
+# Samples.
+
+
+class Chance:
+    """numbers that look random and are the same with every version of Python"""
+
+    def __init__(self, seed):
+        self.seed = seed
+
+    def below(self, n):
+        self.seed = (self.seed * 6364136223846793005 + 1442695040888963407) % 2**64
+        return (self.seed >> 33) % n
+
+    def of(self, things):
+        return things[self.below(len(things))]
+
+    def some(self, n, parts):
+        """a set of numbers below n, each with a chance of one in so many"""
+        return {a for a in range(n) if self.below(parts) == 0}
+
+
+# The files of a test program.
+
+
+def settle(check, crate, made, summary):
+    """without arguments: compares args, stdout and data/ of the crate with what is made here; with --write: writes them"""
+    run = os.path.join(ROOT, "crates", crate)
+    made["args"] = b"".join(name[len("data/"):].encode() + b"\n" for name in made if name.startswith("data/"))
+    if sys.argv[1:] == ["--write"]:
+        for name, text in made.items():
+            with open(os.path.join(run, name), "wb") as f:
+                f.write(text)
+        return 0
+    there = {"data/" + name for name in os.listdir(os.path.join(run, "data"))} | {"args", "stdout"}
+    missing = set(made) - there
+    extra = there - set(made)
+    wrong = [name for name, text in made.items() if name in there and open(os.path.join(run, name), "rb").read() != text]
+    for names, what in ((wrong, "is not what is made here"), (missing, "is missing"), (extra, "is none of the files made here")):
+        for name in sorted(names):
+            print("tests/%s: crates/%s/%s %s" % (check, crate, name, what))
+    print("tests/%s: %s" % (check, summary))
+    return 1 if wrong or missing or extra else 0
