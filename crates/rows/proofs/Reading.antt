@@ -2,15 +2,15 @@
 -- Assumes nothing.
 use mathlib.Core.Path.{_≡_, refl, sym, ap, ap₂, _∙_}
 use mathlib.Core.List.{List}
-use mathlib.Core.Bool.{Bool, true, false, not, _&&_, _||_, and-false, or-true}
-use Prim.Native.Nat.{ℕ, suc, _+_, _-_, _*_, _/_, _%_, _^_, _≤_, _<_}
+use mathlib.Core.Bool.{Bool, true, false, not, _&&_, _||_, and-false}
+use Prim.Native.Nat.{ℕ, zero, suc, _+_, _-_, _*_, _/_, _%_, _^_, _≤_, _<_}
 use native.Mathlib.Nat.{le-refl, le-of-lt, le-antisymm}
 use native.Mathlib.Numerals.{add-one}
 use native.Mathlib.Omega.{arith}
 use native.Mathlib.Decide.{le-ind}
-use lib.Bits.{bitAnd}
+use lib.Bits.{bitAnd, bitOr, or-zero-l, or-add-and, and-le-r}
 use lib.Count.{ones, ones-le}
-use lib.Dec.{eqb}
+use lib.Dec.{eqb, eqb·suc-zero}
 use lib.ListN.{getD, drop}
 use lib.Seq.{getD-take, getD-drop}
 use mir.Syntax.{w64}
@@ -53,112 +53,94 @@ in-range xs p k = p k .fits
 pub ones-fits : (x : ℕ) → Fits w64 x → Fits w64 (ones x)
 ones-fits x h = record { fits = omega (arith, ones-le wordBits x (h .fits)) }
 
+-- the or of two words is 0 exactly where both are, at any number of bits
+or-none : (x y : ℕ) → eqb (bitOr x y) 0 ≡ eqb x 0 && eqb y 0
+or-none zero y = ap (λ (z : ℕ). eqb z 0) (or-zero-l y)
+or-none (suc x) y =
+    ne-eqb (bitOr (suc x) y) 0 (λ e. omega (arith, or-add-and (suc x) y, and-le-r (suc x) y))
+    ∙ sym (ap (λ (b : Bool). b && eqb y 0) (eqb·suc-zero x))
+
+-- so it has a bit where one of them has
+or-some : (x y : ℕ) → not (eqb (bitOr x y) 0) ≡ not (eqb x 0) || not (eqb y 0)
+or-some x y = ap not (or-none x y) ∙ not-both (eqb x 0) (eqb y 0)
+  where
+    not-both : (a b : Bool) → not (a && b) ≡ not a || not b
+    not-both true b = refl
+    not-both false b = refl
+
 -- T of two rows is found a word at a time: op joins what the words before gave to `word` of the next two
 abbrev ByWord : {A : Type 0} → (ℕ → Set → Set → A) → (A → A → A) → (ℕ → ℕ → A) → Type 0
 ByWord T op word =
     (j : ℕ) (xs ys : List ℕ) → Words xs → Words ys
     → T (suc j * wordBits) (row xs) (row ys) ≡ op (T (j * wordBits) (row xs) (row ys)) (word (getD xs j 0) (getD ys j 0))
 
--- good words keep the test good, and a bad one settles it
-record Settles (op : Bool → Bool → Bool) (good bad : Bool) : Type 0 where
-  keep : op good good ≡ good
-  left : (b : Bool) → op bad b ≡ bad
-  right : (b : Bool) → op b bad ≡ bad
-
-all : Settles _&&_ true false
-all = record { keep = refl; left = λ b. refl; right = and-false }
-
-any : Settles _||_ false true
-any = record { keep = refl; left = λ b. refl; right = or-true }
-
 module _ {A : Type 0} (T : ℕ → Set → Set → A) (op : A → A → A) (word : ℕ → ℕ → A) (more : ByWord T op word)
-    (at start w : ℕ) (xs ys : List ℕ) (p : Words xs) (q : Words ys) where
+    (at start w : ℕ) (xs ys : List ℕ) (p : Words xs) (q : Words ys) (j : ℕ) (l : j < w) where
   -- the same for rows in their places
-  in-place : (j : ℕ) → j < w
-      → T (suc j * wordBits) (row (part at w xs)) (row (part start w ys))
+  in-place : T (suc j * wordBits) (row (part at w xs)) (row (part start w ys))
       ≡ op (T (j * wordBits) (row (part at w xs)) (row (part start w ys))) (word (getD xs (at + j) 0) (getD ys (start + j) 0))
-  in-place j l =
+  in-place =
       more j (part at w xs) (part start w ys) (words-part at w xs p) (words-part start w ys q)
       ∙ ap₂ (λ (x y : ℕ). op (T (j * wordBits) (row (part at w xs)) (row (part start w ys))) (word x y))
       (word-of at w xs j l) (word-of start w ys j l)
 
-module _ (T : ℕ → Set → Set → Bool) (op : Bool → Bool → Bool) (good bad : Bool) (s : Settles op good bad) (word : ℕ → ℕ → Bool)
-    (more : ByWord T op word) (at start w : ℕ) (xs ys : List ℕ) (p : Words xs) (q : Words ys) where
-  -- the test of the first k words
-  so-far : ℕ → Bool
-  so-far k = T (k * wordBits) (row (part at w xs)) (row (part start w ys))
+  -- what was found of the words passed, joined to the next, is found with it
+  further : (v : A) → v ≡ T (j * wordBits) (row (part at w xs)) (row (part start w ys))
+      → op v (word (getD xs (at + j) 0) (getD ys (start + j) 0)) ≡ T ((j + 1) * wordBits) (row (part at w xs)) (row (part start w ys))
+  further v h =
+      ap (λ (u : A). op u (word (getD xs (at + j) 0) (getD ys (start + j) 0))) h ∙ sym in-place
+      ∙ ap (λ (k : ℕ). T (k * wordBits) (row (part at w xs)) (row (part start w ys))) (sym (add-one j))
 
-  -- a good word
-  on : (j : ℕ) → j < w → so-far j ≡ good → word (getD xs (at + j) 0) (getD ys (start + j) 0) ≡ good → so-far (j + 1) ≡ good
-  unfolding so-far
-  on j l h e = ap so-far (add-one j) ∙ in-place T op word more at start w xs ys p q j l ∙ ap₂ op h e ∙ s .keep
-
-  -- a bad word
-  off : (j : ℕ) → j < w → word (getD xs (at + j) 0) (getD ys (start + j) 0) ≡ bad → bad ≡ so-far w
-  unfolding so-far
-  off j l e =
-      sym
-      (le-ind (λ (k : ℕ). k ≤ w → so-far k ≡ bad)
-      (λ h. in-place T op word more at start w xs ys p q j l ∙ ap (op (so-far j)) e ∙ s .right (so-far j))
-      (λ k m f h.
-      in-place T op word more at start w xs ys p q k h
-      ∙ ap (λ b. op b (word (getD xs (at + k) 0) (getD ys (start + k) 0))) (f (le-of-lt h)) ∙ s .left _)
-      w l (le-refl w))
-
--- the rows at `at` of xs and at `start` of ys, w words each: the next word passes the test, or settles it
+-- the rows at `at` of xs and at `start` of ys, w words each, and the next word of each
 module _ (at start w : ℕ) (xs ys : List ℕ) (p : Known xs) (q : Known ys) (j : ℕ) (l : j < w) where
-  pub within-on : within (j * wordBits) (row (part at w xs)) (row (part start w ys)) ≡ true
-      → bitAnd (getD xs (at + j) 0) ((2 ^ wordBits - 1) - getD ys (start + j) 0) ≡ 0
-      → within ((j + 1) * wordBits) (row (part at w xs)) (row (part start w ys)) ≡ true
-  unfolding so-far
-  within-on h e = on within _&&_ true false all withinWord within-more at start w xs ys (in-range xs p) (in-range ys q) j l h (eq-eqb _ _ e)
+  -- the bits outside the other row, gathered
+  pub within-on : (past : ℕ) → eqb past 0 ≡ within (j * wordBits) (row (part at w xs)) (row (part start w ys))
+      → eqb (bitOr past (bitAnd (getD xs (at + j) 0) ((2 ^ wordBits - 1) - getD ys (start + j) 0))) 0
+      ≡ within ((j + 1) * wordBits) (row (part at w xs)) (row (part start w ys))
+  within-on past h =
+      or-none past _ ∙ further within _&&_ withinWord within-more at start w xs ys (in-range xs p) (in-range ys q) j l (eqb past 0) h
 
-  pub within-off : (bitAnd (getD xs (at + j) 0) ((2 ^ wordBits - 1) - getD ys (start + j) 0) ≡ 0 → ⊥)
-      → false ≡ within (w * wordBits) (row (part at w xs)) (row (part start w ys))
-  unfolding so-far
-  within-off e = off within _&&_ true false all withinWord within-more at start w xs ys (in-range xs p) (in-range ys q) j l (ne-eqb _ _ e)
+  -- the common bits, gathered
+  pub meets-on : (common : ℕ) → not (eqb common 0) ≡ meets (j * wordBits) (row (part at w xs)) (row (part start w ys))
+      → not (eqb (bitOr common (bitAnd (getD xs (at + j) 0) (getD ys (start + j) 0))) 0)
+      ≡ meets ((j + 1) * wordBits) (row (part at w xs)) (row (part start w ys))
+  meets-on common h =
+      or-some common _ ∙ further meets _||_ meetsWord meets-more at start w xs ys (in-range xs p) (in-range ys q) j l (not (eqb common 0)) h
 
+  -- equal words keep the rows equal so far
   pub same-on : same (j * wordBits) (row (part at w xs)) (row (part start w ys)) ≡ true
       → getD xs (at + j) 0 ≡ getD ys (start + j) 0
       → same ((j + 1) * wordBits) (row (part at w xs)) (row (part start w ys)) ≡ true
-  unfolding so-far
-  same-on h e = on same _&&_ true false all eqb same-more at start w xs ys (in-range xs p) (in-range ys q) j l h (eq-eqb _ _ e)
+  same-on h e =
+      sym (further same _&&_ eqb same-more at start w xs ys (in-range xs p) (in-range ys q) j l true (sym h)) ∙ eq-eqb _ _ e
 
+  -- and different ones settle that they are not
   pub same-off : (getD xs (at + j) 0 ≡ getD ys (start + j) 0 → ⊥)
       → false ≡ same (w * wordBits) (row (part at w xs)) (row (part start w ys))
-  unfolding so-far
-  same-off e = off same _&&_ true false all eqb same-more at start w xs ys (in-range xs p) (in-range ys q) j l (ne-eqb _ _ e)
+  same-off e =
+      let so-far : ℕ → Bool = λ k. same (k * wordBits) (row (part at w xs)) (row (part start w ys)) in
+      let next : (k : ℕ) → k < w → so-far (suc k) ≡ so-far k && eqb (getD xs (at + k) 0) (getD ys (start + k) 0) =
+      in-place same _&&_ eqb same-more at start w xs ys (in-range xs p) (in-range ys q) in
+      sym
+      (le-ind (λ (k : ℕ). k ≤ w → so-far k ≡ false)
+      (λ h. next j l ∙ ap (λ (b : Bool). so-far j && b) (ne-eqb _ _ e) ∙ and-false (so-far j))
+      (λ k m f h. next k h ∙ ap (λ (b : Bool). b && eqb (getD xs (at + k) 0) (getD ys (start + k) 0)) (f (le-of-lt h)))
+      w l (le-refl w))
 
-  pub meets-on : meets (j * wordBits) (row (part at w xs)) (row (part start w ys)) ≡ false
-      → bitAnd (getD xs (at + j) 0) (getD ys (start + j) 0) ≡ 0
-      → meets ((j + 1) * wordBits) (row (part at w xs)) (row (part start w ys)) ≡ false
-  unfolding so-far
-  meets-on h e = on meets _||_ false true any meetsWord meets-more at start w xs ys (in-range xs p) (in-range ys q) j l h (ap not (eq-eqb _ _ e))
-
-  pub meets-off : (bitAnd (getD xs (at + j) 0) (getD ys (start + j) 0) ≡ 0 → ⊥)
-      → true ≡ meets (w * wordBits) (row (part at w xs)) (row (part start w ys))
-  unfolding so-far
-  meets-off e = off meets _||_ false true any meetsWord meets-more at start w xs ys (in-range xs p) (in-range ys q) j l (ap not (ne-eqb _ _ e))
-
--- the row at `at` of xs, w words
+-- the row at `at` of xs, w words, and its next word
 module _ (at w : ℕ) (xs : List ℕ) (p : Known xs) (j : ℕ) (l : j < w) where
-  pub exists-on : exists (j * wordBits) (row (part at w xs)) ≡ false → getD xs (at + j) 0 ≡ 0
-      → exists ((j + 1) * wordBits) (row (part at w xs)) ≡ false
-  unfolding so-far
-  exists-on h e =
-      on (λ m f g. exists m f) _||_ false true any existsWord (λ j xs ys p q. exists-more j xs p) at at w xs xs (in-range xs p) (in-range xs p) j l h (ap not (eq-eqb _ _ e))
+  -- the row's bits, gathered
+  pub exists-on : (found : ℕ) → not (eqb found 0) ≡ exists (j * wordBits) (row (part at w xs))
+      → not (eqb (bitOr found (getD xs (at + j) 0)) 0) ≡ exists ((j + 1) * wordBits) (row (part at w xs))
+  exists-on found h =
+      or-some found _
+      ∙ further (λ m f g. exists m f) _||_ existsWord (λ j xs ys p q. exists-more j xs p) at at w xs xs (in-range xs p) (in-range xs p) j l (not (eqb found 0)) h
 
-  pub exists-off : (getD xs (at + j) 0 ≡ 0 → ⊥) → true ≡ exists (w * wordBits) (row (part at w xs))
-  unfolding so-far
-  exists-off e =
-      off (λ m f g. exists m f) _||_ false true any existsWord (λ j xs ys p q. exists-more j xs p) at at w xs xs (in-range xs p) (in-range xs p) j l (ap not (ne-eqb _ _ e))
-
+  -- the row's bits, counted
   pub count-on : (n : ℕ) → n ≡ count (j * wordBits) (row (part at w xs))
       → n + ones (getD xs (at + j) 0) ≡ count ((j + 1) * wordBits) (row (part at w xs))
-  count-on n h =
-      ap (λ (m : ℕ). m + ones (getD xs (at + j) 0)) h
-      ∙ sym (in-place (λ m f g. count m f) _+_ (λ x y. ones x) (λ j xs ys p q. count-more j xs p) at at w xs xs (in-range xs p) (in-range xs p) j l)
-      ∙ ap (λ (k : ℕ). count (k * wordBits) (row (part at w xs))) (sym (add-one j))
+  count-on =
+      further (λ m f g. count m f) _+_ (λ x y. ones x) (λ j xs ys p q. count-more j xs p) at at w xs xs (in-range xs p) (in-range xs p) j l
 
   -- the count stays within the row
   pub count-le : (n : ℕ) → n ≤ j * wordBits → n + ones (getD xs (at + j) 0) ≤ (j + 1) * wordBits

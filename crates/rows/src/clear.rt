@@ -1,5 +1,6 @@
 // Clearing, at the three widths of the lent areas. The proofs cite the same laws.
 ghost use mathlib.Core.Path.{_≡_};
+ghost use mathlib.Core.Bool.{true};
 ghost use Prim.Native.Nat.{_≤_};
 ghost use lib.ListN.{length, replicate};
 ghost use Rattle.rows.specs.Clear.{cleared};
@@ -54,4 +55,15 @@ pub fn clear_tail64(area: &mut [u64], from: usize, to: usize)
     ensures { λ r. ⌜ now (area .exit) ≡ cleared from to (now (area .entry)) ⌝ }
 {
     clear64(&mut area[from..to]);
+}
+
+// The same, where the part is not known to be zero already.
+pub fn clear_stale64(area: &mut [u64], from: usize, to: usize, fresh: bool)
+    requires { ⌜ (from ≤ to) × (to ≤ length (now area)) × (fresh ≡ true → cleared from to (now area) ≡ now area) ⌝ }
+    ensures { λ r. ⌜ now (area .exit) ≡ cleared from to (now (area .entry)) ⌝ }
+{
+    if fresh {
+        return;
+    }
+    clear_tail64(area, from, to);
 }

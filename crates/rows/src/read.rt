@@ -1,4 +1,6 @@
 // What is read of a row: membership, tests against another row, and the number of members.
+// Rows are short, so `within`, `meets` and `empty` go over all words of a row and look once at what they gathered: a way out at
+// each word would cost more than it saves.
 use limits::Book;
 ghost use mathlib.Core.Path.{_≡_};
 ghost use mathlib.Core.Bool.{not};
@@ -21,14 +23,13 @@ pub fn within(a: &[u64], at: usize, b: &[u64], start: usize, width: usize) -> bo
     requires { ⌜ (at + width ≤ length (now a)) × (start + width ≤ length (now b)) ⌝ }
     ensures { λ r. ⌜ r ≡ Set.within (width * wordBits) (row (part at width (now (a .entry)))) (row (part start width (now (b .entry)))) ⌝ }
 {
+    let mut past = 0u64;
     let mut j = 0;
     while j < width {
-        if a[at + j] & !b[start + j] != 0 {
-            return false;
-        }
+        past = past | (a[at + j] & !b[start + j]);
         j += 1;
     }
-    true
+    past == 0
 }
 
 // Whether the two rows have a common atom.
@@ -36,14 +37,13 @@ pub fn meets(a: &[u64], at: usize, b: &[u64], start: usize, width: usize) -> boo
     requires { ⌜ (at + width ≤ length (now a)) × (start + width ≤ length (now b)) ⌝ }
     ensures { λ r. ⌜ r ≡ Set.meets (width * wordBits) (row (part at width (now (a .entry)))) (row (part start width (now (b .entry)))) ⌝ }
 {
+    let mut common = 0u64;
     let mut j = 0;
     while j < width {
-        if a[at + j] & b[start + j] != 0 {
-            return true;
-        }
+        common = common | (a[at + j] & b[start + j]);
         j += 1;
     }
-    false
+    common != 0
 }
 
 // Whether the two rows have the same atoms.
@@ -66,14 +66,13 @@ pub fn empty(area: &[u64], at: usize, width: usize) -> bool
     requires { ⌜ at + width ≤ length (now area) ⌝ }
     ensures { λ r. ⌜ r ≡ not (Set.exists (width * wordBits) (row (part at width (now (area .entry))))) ⌝ }
 {
+    let mut found = 0u64;
     let mut j = 0;
     while j < width {
-        if area[at + j] != 0 {
-            return false;
-        }
+        found = found | area[at + j];
         j += 1;
     }
-    true
+    found == 0
 }
 
 // The number of atoms in the row.

@@ -1,8 +1,10 @@
--- `rows::read::meets` meets its contract. The loop's invariant: no word passed has a common bit. Assumes nothing.
-use Rattle.rows.proofs.Reading.{rows-end, meets-on, meets-off}
+-- `rows::read::meets` meets its contract. The loop's invariant: `common` has a bit exactly where the words passed have a common one.
+-- Assumes nothing.
+use Rattle.rows.proofs.Reading.{rows-end, meets-on}
 use Prim.Native.Nat.{_*_, _-_, _≤_}
-use mathlib.Core.Path.{_≡_}
-use mathlib.Core.Bool.{false}
+use mathlib.Core.Path.{_≡_, sym}
+use mathlib.Core.Bool.{not}
+use lib.Dec.{eqb}
 use Rattle.limits.specs.Book.{wordBits}
 use Rattle.sets.specs.Set as Set
 use Rattle.words.specs.Row.{row, part}
@@ -11,34 +13,27 @@ use Rattle.rows.proofs.read.meets.Statement.{statement}
 use Rattle.rows.proofs.read.meets.Tie as tie
 
 abbrev Inv-loop : tie.InvT-loop
-Inv-loop a at b start width j₀ j =
-    (j ≤ width) × (Set.meets (j * wordBits) (row (part at width a)) (row (part start width b)) ≡ false)
+Inv-loop a at b start width common₀ j₀ common j =
+    (j ≤ width) × (not (eqb common 0) ≡ Set.meets (j * wordBits) (row (part at width a)) (row (part start width b)))
 
 abbrev μ-loop : tie.MeasureT-loop
-μ-loop a at b start width j₀ j = width - j
+μ-loop a at b start width common₀ j₀ common j = width - j
 
 loop-holds : tie.Need-loop-holds Inv-loop μ-loop
 unfolding Set.meets Set.exists
 loop-holds c = search needs
 
-returns : tie.Need-returns Inv-loop μ-loop
-returns c =
-    let l = c .before .before .before .before in
-    let a = l .before .args in
-    meets-off (a .at) (a .start) _ (a .a .now) (a .b .now) (c .before .before .shared-slice-known .given)
-    (c .before .shared-slice-known2 .given) _ (c .before .before .before .loop-test .taken) (c .if1 .taken)
-
 loop-again : tie.Need-loop-again Inv-loop μ-loop
 loop-again c =
-    let l = c .before .before .before .before in
+    let l = c .before .before .before in
     let a = l .before .args in (
       search needs,
-      meets-on (a .at) (a .start) _ (a .a .now) (a .b .now) (c .before .before .shared-slice-known .given)
-          (c .before .shared-slice-known2 .given) _ (c .before .before .before .loop-test .taken) (l .loop .inv .1) (c .if1 .left),
+      meets-on (a .at) (a .start) _ (a .a .now) (a .b .now) (c .before .shared-slice-known .given)
+          (c .shared-slice-known2 .given) _ (c .before .before .loop-test .taken) (l .loop .common) (l .loop .inv .1),
     )
 
-returns-2 : tie.Need-returns-2 Inv-loop μ-loop
-returns-2 c = rows-end Set.meets _ _ false _ _ (c .before .loop .inv .0) (c .loop-test .left) (c .before .loop .inv .1)
+returns : tie.Need-returns Inv-loop μ-loop
+returns c = rows-end Set.meets _ _ _ _ _ (c .before .loop .inv .0) (c .loop-test .left) (sym (c .before .loop .inv .1))
 
 pub meets-spec : {M : Type 1} → statement M
 meets-spec =
@@ -53,8 +48,7 @@ meets-spec =
     (λ c. search needs)
     (λ c. search needs)
     (λ c. search needs)
-    returns
     (λ c. search needs)
     (λ c. search needs)
     loop-again
-    returns-2)
+    returns)
