@@ -1,34 +1,44 @@
--- The bucket of a run of name bytes, byte by byte.
+-- The bucket of a run of name bytes, byte by byte: the hash is kept below a multiple of the buckets, and reduced to a bucket at the end.
 -- Assumes nothing.
-use mathlib.Core.Path.{_≡_, sym, ap, _∙_}
-use mathlib.Core.Bool.{true, false}
+use mathlib.Core.Path.{_≡_, refl, sym, ap, _∙_}
+use mathlib.Core.Bool.{true}
 use mathlib.Core.List.{map}
-use Prim.Native.Nat.{ℕ, _+_, _*_, _%_, _<_, _≤_}
+use Prim.Native.Nat.{ℕ, _+_, _*_, _/_, _%_, _^_, _<_}
+use native.Mathlib.Nat.{mod-mod-of-dvd, dvd-of-mod-eq-zero, add-mul-mod-self-right}
+use native.Mathlib.Omega.{arith}
 use lib.ListN.{length, getD, drop}
 use Rattle.grammar.specs.Bytes.{Bytes, nameByte, folded}
 use Rattle.grammar.specs.Lines.{span, run}
 use Rattle.scan.specs.Hash.{buckets, hashStep, hashFrom}
-use Rattle.grammar.proofs.Spans.{span-stop, span-past, run-none}
+use Rattle.grammar.proofs.Spans.{run-none}
 use Rattle.scan.proofs.Scans.{run-on}
 
 -- the folded run of name bytes at a place
 abbrev pub spelt : Bytes → ℕ → Bytes
 spelt t i = map folded (run (nameByte folded) (drop i t))
 
-module _ (t : Bytes) (i h e : ℕ) (so : hashFrom h (spelt t i) ≡ e) where
+-- what the running hash is reduced by
+abbrev pub hashes : ℕ
+hashes = 2 ^ 32
+
+-- the buckets divide it: reduced by it, a step on the running hash is one on its bucket
+step-wide : (h b : ℕ) → (h * 31 + b) % hashes % buckets ≡ hashStep (h % buckets) b
+unfolding hashStep
+step-wide h b =
+    let split : h * 31 + b ≡ (h % buckets * 31 + b) + h / buckets * 31 * buckets = omega arith in
+    mod-mod-of-dvd buckets (h * 31 + b) (dvd-of-mod-eq-zero buckets refl) ∙ ap (λ (x : ℕ). x % buckets) split
+    ∙ add-mul-mod-self-right (h % buckets * 31 + b) (h / buckets * 31) buckets
+
+module _ (t : Bytes) (i h e : ℕ) (so : hashFrom (h % buckets) (spelt t i) ≡ e) where
   -- with one byte more, what is left to do equals what there was to do
   pub hash-on : (r : ℕ) → i < length t → r ≡ folded (getD t i 0) → nameByte folded (getD t i 0) ≡ true
-      → hashFrom ((h * 31 + r) % buckets) (spelt t (i + 1)) ≡ e
-  unfolding hashFrom hashStep
-  hash-on r l q n = rw q (sym (ap (λ (s : Bytes). hashFrom h (map folded s)) (run-on (nameByte folded) t i l n)) ∙ so)
+      → hashFrom ((h * 31 + r) % hashes % buckets) (spelt t (i + 1)) ≡ e
+  unfolding hashFrom
+  hash-on r l q n =
+      ap (λ (x : ℕ). hashFrom x (spelt t (i + 1))) (step-wide h r ∙ ap (hashStep (h % buckets)) q)
+      ∙ sym (ap (λ (s : Bytes). hashFrom (h % buckets) (map folded s)) (run-on (nameByte folded) t i l n)) ∙ so
 
   -- at the end of the run nothing is left
-  hash-end : span (nameByte folded) (drop i t) ≡ 0 → h ≡ e
+  pub hash-end : span (nameByte folded) (drop i t) ≡ 0 → h % buckets ≡ e
   unfolding hashFrom
-  hash-end z = sym (ap (λ (s : Bytes). hashFrom h (map folded s)) (run-none (nameByte folded) (drop i t) z)) ∙ so
-
-  pub hash-stop : i < length t → nameByte folded (getD t i 0) ≡ false → h ≡ e
-  hash-stop l n = hash-end (span-stop (nameByte folded) t i l n)
-
-  pub hash-past : length t ≤ i → h ≡ e
-  hash-past l = hash-end (span-past (nameByte folded) t i l)
+  hash-end z = sym (ap (λ (s : Bytes). hashFrom (h % buckets) (map folded s)) (run-none (nameByte folded) (drop i t) z)) ∙ so

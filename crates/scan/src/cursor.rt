@@ -26,6 +26,10 @@ pub struct Word {
 impl Word {
     // How many buckets the reader's index has.
     pub const BUCKETS: usize = 2 * Book::NAMES;
+
+    // What the hash is reduced by at each byte, where every step waits for the one before: 2 to the 32, half a usize, so that a step
+    // more fits and reducing costs next to nothing. A multiple of BUCKETS, so that the bucket, taken once at the end, is the same.
+    const HASHES: usize = 4294967296;
 }
 
 impl Cursor {
@@ -127,9 +131,12 @@ impl Cursor {
             if b == 0 {
                 break;
             }
-            h = (h * 31 + b as usize) % Word::BUCKETS;
+            h = (h * 31 + b as usize) % Word::HASHES;
             i += 1;
         }
-        Word { end: i, bucket: h }
+        Word {
+            end: i,
+            bucket: h % Word::BUCKETS,
+        }
     }
 }

@@ -1,24 +1,26 @@
--- `scan::cursor::Cursor::word` meets its contract. The loop's invariant: what is left to do equals what there was to do, and h is a bucket.
+-- `scan::cursor::Cursor::word` meets its contract. The loop's invariant: what is left to do equals what there was to do, and h is small.
 -- Assumes nothing.
 use mathlib.Core.Path.{_≡_, refl}
-use Prim.Native.Nat.{_+_, _-_, _<_}
+use mathlib.Core.Logic.{⊎-elim}
+use Prim.Native.Nat.{_+_, _-_, _%_, _<_}
 use native.Mathlib.Nat.{mod-lt}
 use native.Mathlib.Omega.{arith}
 use lib.ListN.{length, drop}
 use borrow.Author.Needs.{needs}
 use Rattle.grammar.specs.Bytes.{nameByte, folded}
 use Rattle.grammar.specs.Lines.{span}
+use Rattle.grammar.proofs.Spans.{span-stop, span-past}
 use Rattle.scan.specs.Hash.{buckets, hashFrom, hashOf}
-use Rattle.scan.proofs.Scans.{on, stop, past-end}
+use Rattle.scan.proofs.Scans.{on}
 use Rattle.scan.proofs.Steps.{no-name, of-name}
-use Rattle.scan.proofs.Hashing.{spelt, hash-on, hash-stop, hash-past}
+use Rattle.scan.proofs.Hashing.{spelt, hashes, hash-on, hash-end}
 use Rattle.scan.proofs.cursor.Cursor.word.Statement.{statement}
 use Rattle.scan.proofs.cursor.Cursor.word.Tie as tie
 
 abbrev Inv-loop : tie.InvT-loop
 Inv-loop text table i₀ h₀ i h =
     (i + span (nameByte folded) (drop i text) ≡ i₀ + span (nameByte folded) (drop i₀ text))
-    × (h < buckets) × (hashFrom h (spelt text i) ≡ hashOf (spelt text i₀))
+    × (h < hashes) × (hashFrom (h % buckets) (spelt text i) ≡ hashOf (spelt text i₀))
 
 abbrev μ-loop : tie.MeasureT-loop
 μ-loop text table i₀ h₀ i h = length text - i
@@ -39,26 +41,17 @@ loop-again c =
       hash-on t i _ _ (l .loop .inv .2) _ more (f .ensures) name,
     )
 
+-- past the text or at a byte of no name, the run is at its end
 returns : tie.Need-returns Inv-loop μ-loop
 returns c =
     let l = c .before in
     let t = l .before .before .before .args .text .now in
     let i = l .loop .i in
-    let done = c .loop-test .left in (
-      past-end (nameByte folded) t i _ done (l .loop .inv .0),
-      hash-past t i _ _ (l .loop .inv .2) done,
-    )
-
-returns-2 : tie.Need-returns-2 Inv-loop μ-loop
-returns-2 c =
-    let l = c .before .before .before .before in
-    let t = l .before .before .before .args .text .now in
-    let i = l .loop .i in
-    let f = c .before .fold in
-    let more = c .before .before .before .loop-test .taken in
-    let name = no-name _ _ (f .ensures) (c .if1 .taken) in (
-      stop (nameByte folded) t i _ more name (l .loop .inv .0),
-      hash-stop t i _ _ (l .loop .inv .2) more name,
+    let done : span (nameByte folded) (drop i t) ≡ 0 =
+    ⊎-elim (λ w. span-past (nameByte folded) t i (w .left))
+    (λ w. span-stop (nameByte folded) t i (w .0 .taken) (no-name _ _ (w .2 .ensures) (w .3 .taken))) (c .loop-test .came) in (
+      omega arith,
+      hash-end t i _ _ (l .loop .inv .2) done,
     )
 
 pub word-spec : {M : Type 1} → statement M
@@ -76,5 +69,4 @@ word-spec =
     (λ c. search needs)
     (λ c. search needs)
     loop-again
-    returns
-    returns-2)
+    returns)
