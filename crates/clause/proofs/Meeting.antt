@@ -1,26 +1,28 @@
 -- A name met: what entering it needs, and what it leaves.
 -- Assumes nothing.
-use mathlib.Core.Path.{_≡_, sym, ap, ap₂, _∙_, subst}
+use mathlib.Core.Path.{_≡_, sym, ap, ap₂, _∙_, subst, subst₂}
 use mathlib.Core.Bool.{true, false}
 use mathlib.Core.Logic.{_⊎_, inl, inr, ⊎-elim}
 use mathlib.Core.List.{List, [], _∷_, _++_, map}
-use Prim.Native.Nat.{ℕ, _+_, _-_, _≤_, _<_}
+use Prim.Native.Nat.{ℕ, _+_, _*_, _-_, _≤_, _<_}
 use native.Mathlib.Omega.{arith}
 use lib.Dec.{eqb}
-use lib.ListN.{length, take, drop, length-append, length-drop}
+use lib.ListN.{length, getD, take, drop, set, length-append, length-drop}
 use lib.Seq.{drop-append-seam}
-use borrow.Author.Tests.{eqb-true, eqb-false}
-use Rattle.limits.specs.Book.{names, nameArea}
+use borrow.Author.Tests.{eqb-true}
+use Rattle.limits.specs.Book.{names, nameBytes, nameArea}
 use Rattle.sets.proofs.Logic.{pick-true, pick-false}
+use Rattle.words.specs.Row.{put}
 use Rattle.grammar.specs.Bytes.{Bytes, nameByte, folded}
 use Rattle.grammar.specs.Lines.{span, isName}
 use Rattle.grammar.proofs.Spans.{span-le}
 use Rattle.scan.specs.Hash.{hashOf}
 use Rattle.tables.specs.Numbering.{place}
-use Rattle.tables.specs.Areas.{nameRows, namesIn}
+use Rattle.tables.specs.Areas.{padded, nameRows, namesIn}
 use Rattle.tables.specs.Begun.{begun}
+use Rattle.tables.proofs.Numbering.{place-le}
 use Rattle.lexicon.specs.Index.{Indexed, NameAt, wordAt, settled, entered, enteredArea}
-use Rattle.lexicon.proofs.Entering.{settled-name, settled-full, settled-new, entered-length, entered-past, entered-names, entered-begun, entered-fine}
+use Rattle.lexicon.proofs.Entering.{settled-name, settled-full, settled-new, kept-area, kept-index, new-area, new-index, entered-length, entered-past, entered-names, entered-begun, entered-fine}
 use Rattle.lexicon.proofs.Spelling.{word-fine}
 use Rattle.clause.proofs.Forms.{name-long}
 use Rattle.clause.specs.Tables.{NameHere, Kept, Named, Meeting, nameFolded}
@@ -56,7 +58,7 @@ module _ (t : Bytes) (i end bucket : ℕ) (h : NameHere t i end bucket) where
 
   -- among the first n names of an area
   module _ (n : ℕ) (area : Bytes) (first prior : List ℕ) (k : Named (namesIn area n) n area first prior) where
-    -- what entering it needs
+    -- what finding or entering it needs
     pub ready : ((n ≤ names) × (nameArea ≤ length area) × NameAt t i (end - i))
         × (Indexed (namesIn area n) first prior × (bucket ≡ hashOf (wordAt t i (end - i))))
     ready = ((k .few, k .long, stands), (k .index, h .hashed ∙ ap hashOf (sym word-is)))
@@ -96,20 +98,27 @@ module _ (t : Bytes) (i end bucket : ℕ) (h : NameHere t i end bucket) where
           subst (λ (v : Bytes). Meeting ns v number n′ area area′ first′ prior′) word-is
           (record { is = p; named = named n′ c l; kept = kept })
 
-      -- the name is known, or there is no room
-      pub met-known : (number < n) ⊎ (eqb n names ≡ true) → Meeting ns (nameFolded t i) number n area area′ first′ prior′
-      met-known o =
-          let c : n ≡ length ns = k .count in
-          let g : (place ns w < length ns) ⊎ (names ≤ length ns) =
-          ⊎-elim (λ (l : number < n). inl (omega (arith, p))) (λ (q : eqb n names ≡ true). inr (omega (arith, eqb-true n names q))) o
-          in
-          meeting n (c ∙ sym (same-count ns w (⊎-elim (settled-name ns w) (settled-full ns w) g))) (k .few)
+    -- a number that is none of theirs is the next
+    pub next-number : (number : ℕ) → number ≡ place ns w → n ≤ number → n ≡ place ns w
+    next-number number p l = omega (arith, p, place-le ns w, k .count)
 
-      -- it is new
-      pub met-new : n ≤ number → eqb n names ≡ false → Meeting ns (nameFolded t i) number (n + 1) area area′ first′ prior′
-      met-new l o =
-          let c : n ≡ length ns = k .count in
-          let d : n ≡ names → ⊥ = eqb-false n names o in
-          let few : n ≤ names = k .few in
-          let s : settled ns w ≡ false = settled-new ns w (omega (arith, p)) (omega arith) in
-          meeting (n + 1) (omega (arith, more-count ns w s)) (omega arith)
+    -- it is known, or there is no room: nothing changes
+    pub met-kept : (number : ℕ) → number ≡ place ns w → (number < n) ⊎ (eqb n names ≡ true) → Meeting ns (nameFolded t i) number n area area first prior
+    met-kept number p o =
+        let c : n ≡ length ns = k .count in
+        let g : (place ns w < length ns) ⊎ (names ≤ length ns) =
+        ⊎-elim (λ (l : number < n). inl (omega (arith, p))) (λ (q : eqb n names ≡ true). inr (omega (arith, eqb-true n names q))) o
+        in
+        meeting number area first prior p (kept-area area w n number first prior (k .index) p o) (kept-index area w n number first prior (k .index) p o) n
+        (c ∙ sym (same-count ns w (⊎-elim (settled-name ns w) (settled-full ns w) g))) (k .few)
+
+    -- it is new: it has the next row, and leads its bucket
+    pub met-new : (number : ℕ) → number ≡ place ns w → n ≤ number → n < names → (area′ : Bytes) (first′ prior′ : List ℕ)
+        → area′ ≡ put (n * nameBytes) (padded w) area → first′ ≡ set first bucket (n + 1) → prior′ ≡ set prior n (getD first bucket 0)
+        → Meeting ns (nameFolded t i) number (n + 1) area area′ first′ prior′
+    met-new number p l m area′ first′ prior′ a f b =
+        let c : n ≡ length ns = k .count in
+        let s : settled ns w ≡ false = settled-new ns w (omega (arith, p)) (omega arith) in
+        meeting number area′ first′ prior′ p (new-area area w n number first prior (k .index) p l m area′ a)
+        (subst₂ (Indexed (entered ns w)) (sym f) (sym b) (new-index area w n number first prior (k .index) p l m bucket (ready .1 .1)))
+        (n + 1) (omega (arith, more-count ns w s)) (omega arith)

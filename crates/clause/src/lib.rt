@@ -1,5 +1,6 @@
 // The rule that a line says, judged and entered into the tables in one pass over its bytes.
-use lexicon::enter;
+use lexicon::add;
+use lexicon::find;
 use limits::Book;
 use rows::clear::clear_tail64;
 use rows::write::insert;
@@ -50,7 +51,8 @@ fn meet(
     requires { ⌜ Named (namesIn (now spellings) n) n (now spellings) (now first) (now prior) × NameHere (now text) at (word .end) (word .bucket) × FoldTable (now table) ⌝ }
     ensures { λ r. ⌜ Meeting (namesIn (now (spellings .entry)) n) (nameFolded (now (text .entry)) at) (r .number) (r .names) (now (spellings .entry)) (now (spellings .exit)) (now (first .exit)) (now (prior .exit)) ⌝ }
 {
-    let number = enter(
+    let len = word.end - at;
+    let number = find(
         spellings,
         n,
         first,
@@ -58,12 +60,23 @@ fn meet(
         text,
         table,
         at,
-        word.end - at,
+        len,
         word.bucket,
     );
     if number < n || n == Book::NAMES {
         return Met { number, names: n };
     }
+    add(
+        spellings,
+        n,
+        first,
+        prior,
+        text,
+        table,
+        at,
+        len,
+        word.bucket,
+    );
     Met {
         number,
         names: n + 1,
@@ -100,16 +113,46 @@ fn join(
             room: false,
         };
     }
-    let met = meet(text, table, at, word, spellings, first, prior, n);
-    if met.number == Book::NAMES {
+    // Most names of a body are known, and the search is the reader's hot path: it stands here, so that it is inlined where the body is walked.
+    let len = word.end - at;
+    let known = find(
+        spellings,
+        n,
+        first,
+        prior,
+        text,
+        table,
+        at,
+        len,
+        word.bucket,
+    );
+    if known < n {
+        insert(bodies, Book::body_at(m), Book::BODY_WORDS, known);
+        return Joined {
+            names: n,
+            room: true,
+        };
+    }
+    if n == Book::NAMES {
         return Joined {
             names: n,
             room: false,
         };
     }
-    insert(bodies, Book::body_at(m), Book::BODY_WORDS, met.number);
+    add(
+        spellings,
+        n,
+        first,
+        prior,
+        text,
+        table,
+        at,
+        len,
+        word.bucket,
+    );
+    insert(bodies, Book::body_at(m), Book::BODY_WORDS, n);
     Joined {
-        names: met.names,
+        names: n + 1,
         room: true,
     }
 }

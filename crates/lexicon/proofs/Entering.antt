@@ -23,7 +23,7 @@ use Rattle.tables.specs.Begun.{begun}
 use Rattle.tables.proofs.Numbering.{meet-known, meet-new, by-place}
 use Rattle.tables.proofs.Encoding.{Fine, AllFine, AllFit, length-padded, length-nameRows, nameRows-append, run-padded, put-begun}
 use Rattle.scan.specs.Hash.{buckets, hashOf}
-use Rattle.lexicon.specs.Index.{Indexed, latest, settled, entered, enteredArea, enteredFirst, enteredPrior}
+use Rattle.lexicon.specs.Index.{Indexed, latest, settled, entered, enteredArea}
 use Rattle.lexicon.proofs.Chains.{names-length, names-at, hash-lt, place-none}
 
 -- a word that is a name, or for which there is no room, changes nothing
@@ -197,16 +197,7 @@ module _ (area w : Bytes) (n a : ℕ) (first prior : List ℕ) (ix : Indexed (na
   pub kept-area : (a < n) ⊎ (eqb n names ≡ true) → area ≡ enteredArea ns w area
   kept-area h = sym (area-kept ns w area (settled-there h))
 
-  -- and so do the index's tables
-  pub kept-first : (a < n) ⊎ (eqb n names ≡ true) → first ≡ enteredFirst ns w first
-  unfolding enteredFirst
-  kept-first h = sym (pick-true first (set first (hashOf w) (suc (length ns))) (settled-there h))
-
-  pub kept-prior : (a < n) ⊎ (eqb n names ≡ true) → prior ≡ enteredPrior ns w first prior
-  unfolding enteredPrior
-  kept-prior h = sym (pick-true prior (set prior (length ns) (getD first (hashOf w) 0)) (settled-there h))
-
-  -- which are an index
+  -- and so does the index
   pub kept-index : (a < n) ⊎ (eqb n names ≡ true) → Indexed (entered ns w) first prior
   kept-index h = subst (λ (l : List Bytes). Indexed l first prior) (sym (entered-kept ns w (settled-there h))) ix
 
@@ -220,20 +211,7 @@ module _ (area w : Bytes) (n a : ℕ) (first prior : List ℕ) (ix : Indexed (na
     pub new-area : (last : Bytes) → last ≡ put (n * nameBytes) (padded w) area → last ≡ enteredArea ns w area
     new-area last e = e ∙ ap (λ (k : ℕ). put (k * nameBytes) (padded w) area) (sym size) ∙ sym (area-new ns w area fresh)
 
-    -- it leads its bucket, before the name that led it
-    pub new-first : (b : ℕ) → b ≡ hashOf w → set first b (n + 1) ≡ enteredFirst ns w first
-    unfolding enteredFirst
-    new-first b e =
-        let k : n + 1 ≡ suc (length ns) = omega (arith, size) in
-        ap₂ (set first) e k ∙ sym (pick-false first (set first (hashOf w) (suc (length ns))) fresh)
-
-    pub new-prior : (b : ℕ) → b ≡ hashOf w → set prior n (getD first b 0) ≡ enteredPrior ns w first prior
-    unfolding enteredPrior
-    new-prior b e =
-        ap₂ (λ (i j : ℕ). set prior i (getD first j 0)) (sym size) e
-        ∙ sym (pick-false prior (set prior (length ns) (getD first (hashOf w) 0)) fresh)
-
-    -- and it is in the index
+    -- it leads its bucket in the index, before the name that led it
     pub new-index : (b : ℕ) → b ≡ hashOf w → Indexed (entered ns w) (set first b (n + 1)) (set prior n (getD first b 0))
     new-index b e =
         let k : suc (length ns) ≡ n + 1 = omega (arith, size) in

@@ -5,7 +5,7 @@ use mathlib.Core.Bool.{Bool, true, false, _||_}
 use mathlib.Core.List.{List, [], _∷_, _++_, map}
 use Prim.Native.Nat.{ℕ, zero, suc, _+_, _*_, _<_, _≤_}
 use lib.Dec.{eqb, leb, ltb}
-use lib.ListN.{length, getD, set}
+use lib.ListN.{length, getD}
 use Rattle.limits.specs.Book.{names, nameBytes}
 use Rattle.sets.specs.Set.{pick}
 use Rattle.words.specs.Row.{part, put}
@@ -47,10 +47,3 @@ entered ns w = pick (settled ns w) ns (ns ++ (w ∷ []))
 -- the name area then: a new name's row follows the others
 unfoldable pub enteredArea : List Bytes → Bytes → Bytes → Bytes
 enteredArea ns w area = pick (settled ns w) area (put (length ns * nameBytes) (padded w) area)
-
--- the index then: a new name leads its bucket, before the one that led it
-unfoldable pub enteredFirst : List Bytes → Bytes → List ℕ → List ℕ
-enteredFirst ns w first = pick (settled ns w) first (set first (hashOf w) (suc (length ns)))
-
-unfoldable pub enteredPrior : List Bytes → Bytes → List ℕ → List ℕ → List ℕ
-enteredPrior ns w first prior = pick (settled ns w) prior (set prior (length ns) (getD first (hashOf w) 0))

@@ -1,4 +1,4 @@
-// The name area: finding a word among the names through an index, and entering it.
+// The name area: finding a word among the names through an index, and adding a new one.
 pub mod look_up;
 
 use limits::Book;
@@ -6,14 +6,14 @@ use rows::clear::clear_tail8;
 use scan::table::fold;
 ghost use mathlib.Core.Path.{_≡_};
 ghost use Prim.Native.Nat.{_+_, _*_, _<_, _≤_};
-ghost use lib.ListN.{length};
+ghost use lib.ListN.{length, getD, set};
 ghost use Rattle.limits.specs.Book.{names, nameBytes, nameArea};
 ghost use Rattle.words.specs.Row.{put};
 ghost use Rattle.scan.specs.Fold.{FoldTable};
-ghost use Rattle.scan.specs.Hash.{hashOf};
+ghost use Rattle.scan.specs.Hash.{buckets, hashOf};
 ghost use Rattle.tables.specs.Numbering.{sameBytes, place};
 ghost use Rattle.tables.specs.Areas.{nameAt, namesIn, padded};
-ghost use Rattle.lexicon.specs.Index.{Indexed, NameAt, wordAt, entered, enteredArea, enteredFirst, enteredPrior};
+ghost use Rattle.lexicon.specs.Index.{Indexed, NameAt, wordAt};
 
 // Whether the word of len bytes from place `at` of the text, folded, is name a.
 pub fn spells(spellings: &[u8], a: usize, text: &[u8], table: &[u8], at: usize, len: usize) -> bool
@@ -73,8 +73,8 @@ pub fn write_name(spellings: &mut [u8], a: usize, text: &[u8], table: &[u8], at:
     clear_tail8(spellings, row + len, row + Book::NAME_BYTES);
 }
 
-// The number of that word; where it is new and there is room, it joins the names. Book::NAMES means that there is no room.
-pub fn enter(
+// A new word becomes name n, and leads its bucket before the name that led it.
+pub fn add(
     spellings: &mut [u8],
     n: usize,
     first: &mut [u16],
@@ -84,21 +84,14 @@ pub fn enter(
     at: usize,
     len: usize,
     bucket: usize,
-) -> usize
-    requires { ⌜ (n ≤ names) × (nameArea ≤ length (now spellings)) × NameAt (now text) at len × FoldTable (now table) ⌝ }
-    requires { ⌜ Indexed (namesIn (now spellings) n) (now first) (now prior) × (bucket ≡ hashOf (wordAt (now text) at len)) ⌝ }
-    ensures number { λ r. ⌜ r ≡ place (namesIn (now (spellings .entry)) n) (wordAt (now (text .entry)) at len) ⌝ }
-    ensures area { λ r. ⌜ now (spellings .exit) ≡ enteredArea (namesIn (now (spellings .entry)) n) (wordAt (now (text .entry)) at len) (now (spellings .entry)) ⌝ }
-    ensures index { λ r. ⌜ Indexed (entered (namesIn (now (spellings .entry)) n) (wordAt (now (text .entry)) at len)) (now (first .exit)) (now (prior .exit)) ⌝ }
-    ensures firsts { λ r. ⌜ now (first .exit) ≡ enteredFirst (namesIn (now (spellings .entry)) n) (wordAt (now (text .entry)) at len) (now (first .entry)) ⌝ }
-    ensures priors { λ r. ⌜ now (prior .exit) ≡ enteredPrior (namesIn (now (spellings .entry)) n) (wordAt (now (text .entry)) at len) (now (first .entry)) (now (prior .entry)) ⌝ }
+)
+    requires { ⌜ (n < names) × (nameArea ≤ length (now spellings)) × NameAt (now text) at len × FoldTable (now table) ⌝ }
+    requires { ⌜ (length (now first) ≡ buckets) × (length (now prior) ≡ names) × (bucket < buckets) ⌝ }
+    ensures area { λ r. ⌜ now (spellings .exit) ≡ put (n * nameBytes) (padded (wordAt (now (text .entry)) at len)) (now (spellings .entry)) ⌝ }
+    ensures firsts { λ r. ⌜ now (first .exit) ≡ set (now (first .entry)) bucket (n + 1) ⌝ }
+    ensures priors { λ r. ⌜ now (prior .exit) ≡ set (now (prior .entry)) n (getD (now (first .entry)) bucket 0) ⌝ }
 {
-    let a = find(spellings, n, first, prior, text, table, at, len, bucket);
-    if a < n || n == Book::NAMES {
-        return a;
-    }
     write_name(spellings, n, text, table, at, len);
     prior[n] = first[bucket];
     first[bucket] = (n + 1) as u16;
-    a
 }
