@@ -1,15 +1,14 @@
 -- The head line, put field by field.
 -- Assumes nothing.
-use mathlib.Core.Path.{_≡_, refl, sym, ap, _∙_}
+use mathlib.Core.Path.{_≡_, refl, sym}
 use mathlib.Core.List.{[], _∷_, _++_, append-nil, append-assoc}
-use Prim.Native.Nat.{ℕ, _+_, _≤_, _<_}
-use native.Mathlib.Nat.{zero-add}
+use Prim.Native.Nat.{ℕ, _+_, _≤_}
 use native.Mathlib.Omega.{arith}
-use lib.ListN.{length, drop, set, length-append}
+use lib.ListN.{length, length-append}
 use Rattle.words.specs.Row.{put}
 use Rattle.grammar.specs.Bytes.{Bytes, bytes, lineEnd}
-use Rattle.tables.specs.Begun.{begun}
-use Rattle.copying.proofs.Putting.{Left, left-start, left-length, left-room, left-on, left-byte, left-none, left-end}
+use Rattle.copying.proofs.Putting.{Left, left-start, left-room, left-on, left-none, left-end}
+use Rattle.copying.proofs.Line.{LineLeft, line-start, part-put}
 use Rattle.solving.specs.Listing.{decimal, headLine}
 
 -- a field: its name, then the number
@@ -41,7 +40,7 @@ module _ (name : Bytes) (n : ℕ) (old : Bytes) (at : ℕ) (fits : at + length (
       pub field-next : j ≡ at + length (name ++ decimal n)
       field-next = left-end old at _ fits _ new j whole refl
 
--- the four fields, and the line with its end
+-- the four fields
 module _ (n held folds rounds : ℕ) where
   abbrev names-field : Bytes
   names-field = bytes "DPL 0001 names=" ++ decimal n
@@ -55,79 +54,31 @@ module _ (n held folds rounds : ℕ) where
   abbrev rounds-field : Bytes
   rounds-field = bytes " rounds=" ++ decimal rounds
 
-  abbrev line : Bytes
-  line = headLine n held folds rounds ++ (lineEnd ∷ [])
-
-  -- the line is the fields one after the other, and its end
-  fields : line ≡ names-field ++ (held-field ++ (folds-field ++ (rounds-field ++ (lineEnd ∷ []))))
-  unfolding headLine
-  fields = simp append-assoc refl
-
+  -- what is left of the line, put into an area with room for it
   module _ (old : Bytes) (room : length (headLine n held folds rounds) + 1 ≤ length old) where
-    fits : 0 + length line ≤ length old
-    fits = omega (arith, length-append (headLine n held folds rounds) (lineEnd ∷ []))
+    abbrev Rest : Bytes → Bytes → Bytes → ℕ → Type 0
+    Rest = LineLeft (headLine n held folds rounds) old
 
-    start : Left old 0 line (names-field ++ (held-field ++ (folds-field ++ (rounds-field ++ (lineEnd ∷ []))))) old 0
-    start = record { done = []; holds = refl; place = refl; all = sym fields }
+    -- before the first field
+    pub before-names : Rest names-field (held-field ++ (folds-field ++ (rounds-field ++ (lineEnd ∷ [])))) old 0
+    before-names = line-start (headLine n held folds rounds) old room _ _ fields
+      where
+        fields : headLine n held folds rounds ++ (lineEnd ∷ []) ≡ names-field ++ (held-field ++ (folds-field ++ (rounds-field ++ (lineEnd ∷ []))))
+        fields = unfold headLine in simp append-assoc refl
 
-    -- there is room for the first field
-    pub names-room : 0 + length names-field ≤ length old
-    names-room = omega (arith, fits, ap length fields, length-append names-field (held-field ++ (folds-field ++ (rounds-field ++ (lineEnd ∷ [])))))
-
-    -- it is put, up to i
+    -- after each
     module _ (text : Bytes) (i : ℕ) (p : text ≡ put 0 names-field old) (q : i ≡ 0 + length names-field) where
-      past-names : Left old 0 line (held-field ++ (folds-field ++ (rounds-field ++ (lineEnd ∷ [])))) text i
-      past-names = left-on old 0 line fits _ old 0 start names-field _ text i refl p q
+      pub after-names : Rest held-field (folds-field ++ (rounds-field ++ (lineEnd ∷ []))) text i
+      after-names = part-put _ old room _ _ old 0 before-names _ _ text i refl p q
 
-      -- there is room for the second
-      pub held-room : i + length held-field ≤ length text
-      held-room =
-          omega (arith, left-room old 0 line fits _ text i past-names, length-append held-field (folds-field ++ (rounds-field ++ (lineEnd ∷ []))))
-
-      -- it is put, up to j
       module _ (text₂ : Bytes) (j : ℕ) (p₂ : text₂ ≡ put i held-field text) (q₂ : j ≡ i + length held-field) where
-        past-held : Left old 0 line (folds-field ++ (rounds-field ++ (lineEnd ∷ []))) text₂ j
-        past-held = left-on old 0 line fits _ text i past-names held-field _ text₂ j refl p₂ q₂
+        pub after-held : Rest folds-field (rounds-field ++ (lineEnd ∷ [])) text₂ j
+        after-held = part-put _ old room _ _ text i after-names _ _ text₂ j refl p₂ q₂
 
-        -- there is room for the third
-        pub folds-room : j + length folds-field ≤ length text₂
-        folds-room =
-            omega (arith, left-room old 0 line fits _ text₂ j past-held, length-append folds-field (rounds-field ++ (lineEnd ∷ [])))
-
-        -- it is put, up to k
         module _ (text₃ : Bytes) (k : ℕ) (p₃ : text₃ ≡ put j folds-field text₂) (q₃ : k ≡ j + length folds-field) where
-          past-folds : Left old 0 line (rounds-field ++ (lineEnd ∷ [])) text₃ k
-          past-folds = left-on old 0 line fits _ text₂ j past-held folds-field _ text₃ k refl p₃ q₃
+          pub after-folds : Rest rounds-field (lineEnd ∷ []) text₃ k
+          after-folds = part-put _ old room _ _ text₂ j after-held _ _ text₃ k refl p₃ q₃
 
-          -- there is room for the fourth
-          pub rounds-room : k + length rounds-field ≤ length text₃
-          rounds-room = omega (arith, left-room old 0 line fits _ text₃ k past-folds, length-append rounds-field (lineEnd ∷ []))
-
-          -- it is put, up to the end
-          module _ (text₄ : Bytes) (end : ℕ) (p₄ : text₄ ≡ put k rounds-field text₃) (q₄ : end ≡ k + length rounds-field) where
-            past-rounds : Left old 0 line (lineEnd ∷ []) text₄ end
-            past-rounds = left-on old 0 line fits _ text₃ k past-folds rounds-field _ text₄ end refl p₄ q₄
-
-            -- there is room for the line end
-            pub end-slot : end < length text₄
-            end-slot = omega (arith, left-room old 0 line fits _ text₄ end past-rounds)
-
-            -- which is put
-            done : Left old 0 line [] (set text₄ end lineEnd) (end + 1)
-            done = left-byte old 0 line fits _ text₄ end past-rounds lineEnd [] refl
-
-            -- the area is as long as it was
-            pub head-length : length (set text₄ end lineEnd) ≡ length old
-            head-length = left-length old 0 line fits _ _ (end + 1) done
-
-            -- the line is put
-            pub head-put : set text₄ end lineEnd ≡ begun line old
-            unfolding begun
-            head-put =
-                left-none old 0 line fits _ _ (end + 1) done refl
-                ∙ ap (λ (m : ℕ). line ++ drop m old) (zero-add (length line))
-
-            -- and the place is past it
-            pub head-next : end + 1 ≡ length (headLine n held folds rounds) + 1
-            head-next =
-                omega (arith, left-end old 0 line fits _ _ (end + 1) done refl, length-append (headLine n held folds rounds) (lineEnd ∷ []))
+          pub after-rounds : (text₄ : Bytes) (end : ℕ) → text₄ ≡ put k rounds-field text₃ → end ≡ k + length rounds-field
+              → Rest (lineEnd ∷ []) [] text₄ end
+          after-rounds text₄ end p₄ q₄ = part-put _ old room _ _ text₃ k after-folds _ _ text₄ end refl p₄ q₄

@@ -1,6 +1,7 @@
 -- `listing::head::put_head` meets its contract. Four fields and the line end, one after the other. Assumes nothing.
 use native.Mathlib.Omega.{arith}
-use Rattle.listing.proofs.Heads.{names-room, held-room, folds-room, rounds-room, end-slot, head-length, head-put, head-next}
+use Rattle.copying.proofs.Line.{part-room, end-slot, line-length, line-put, line-next}
+use Rattle.listing.proofs.Heads.{before-names, after-names, after-held, after-folds, after-rounds}
 use borrow.Author.Needs.{needs}
 use Rattle.listing.proofs.head.put_head.Statement.{statement}
 use Rattle.listing.proofs.head.put_head.Tie as tie
@@ -9,14 +10,14 @@ put-field-requires : tie.Need-put-field-requires
 put-field-requires c κs =
     let s = c .before .before .before in
     let a = s .args in
-    names-room (a .n) (a .held) (a .folds) (a .rounds) (a .text .now) (s .pre)
+    part-room _ (a .text .now) (s .pre) _ _ _ _ (before-names (a .n) (a .held) (a .folds) (a .rounds) (a .text .now) (s .pre))
 
 put-field-requires-2 : tie.Need-put-field-requires-2
 put-field-requires-2 c κs =
     let w = c .before .before .before .before in
     let s = w .before .before .before .before in
     let a = s .args in
-    held-room (a .n) (a .held) (a .folds) (a .rounds) (a .text .now) (s .pre) _ _ (w .put-field .ensures .1) (w .put-field .ensures .0)
+    part-room _ (a .text .now) (s .pre) _ _ _ _ (after-names (a .n) (a .held) (a .folds) (a .rounds) (a .text .now) (s .pre) _ _ (w .put-field .ensures .1) (w .put-field .ensures .0))
 
 put-field-requires-3 : tie.Need-put-field-requires-3
 put-field-requires-3 c κs =
@@ -24,8 +25,7 @@ put-field-requires-3 c κs =
     let w = x .before .before .before .before .before in
     let s = w .before .before .before .before in
     let a = s .args in
-    folds-room (a .n) (a .held) (a .folds) (a .rounds) (a .text .now) (s .pre) _ _ (w .put-field .ensures .1) (w .put-field .ensures .0)
-    _ _ (x .put-field2 .ensures .1) (x .put-field2 .ensures .0)
+    part-room _ (a .text .now) (s .pre) _ _ _ _ (after-held (a .n) (a .held) (a .folds) (a .rounds) (a .text .now) (s .pre) _ _ (w .put-field .ensures .1) (w .put-field .ensures .0) _ _ (x .put-field2 .ensures .1) (x .put-field2 .ensures .0))
 
 put-field-requires-4 : tie.Need-put-field-requires-4
 put-field-requires-4 c κs =
@@ -34,8 +34,7 @@ put-field-requires-4 c κs =
     let w = x .before .before .before .before .before in
     let s = w .before .before .before .before in
     let a = s .args in
-    rounds-room (a .n) (a .held) (a .folds) (a .rounds) (a .text .now) (s .pre) _ _ (w .put-field .ensures .1) (w .put-field .ensures .0)
-    _ _ (x .put-field2 .ensures .1) (x .put-field2 .ensures .0) _ _ (y .put-field3 .ensures .1) (y .put-field3 .ensures .0)
+    part-room _ (a .text .now) (s .pre) _ _ _ _ (after-folds (a .n) (a .held) (a .folds) (a .rounds) (a .text .now) (s .pre) _ _ (w .put-field .ensures .1) (w .put-field .ensures .0) _ _ (x .put-field2 .ensures .1) (x .put-field2 .ensures .0) _ _ (y .put-field3 .ensures .1) (y .put-field3 .ensures .0))
 
 slice-write-text : tie.Need-slice-write-text
 slice-write-text c =
@@ -45,9 +44,7 @@ slice-write-text c =
     let w = x .before .before .before .before .before in
     let s = w .before .before .before .before in
     let a = s .args in
-    end-slot (a .n) (a .held) (a .folds) (a .rounds) (a .text .now) (s .pre) _ _ (w .put-field .ensures .1) (w .put-field .ensures .0)
-    _ _ (x .put-field2 .ensures .1) (x .put-field2 .ensures .0) _ _ (y .put-field3 .ensures .1) (y .put-field3 .ensures .0)
-    _ _ (z .put-field4 .ensures .1) (z .put-field4 .ensures .0)
+    end-slot _ (a .text .now) (s .pre) _ _ (after-rounds (a .n) (a .held) (a .folds) (a .rounds) (a .text .now) (s .pre) _ _ (w .put-field .ensures .1) (w .put-field .ensures .0) _ _ (x .put-field2 .ensures .1) (x .put-field2 .ensures .0) _ _ (y .put-field3 .ensures .1) (y .put-field3 .ensures .0) _ _ (z .put-field4 .ensures .1) (z .put-field4 .ensures .0))
 
 add-result : tie.Need-add-result
 add-result c =
@@ -57,13 +54,7 @@ add-result c =
     let w = x .before .before .before .before .before in
     let s = w .before .before .before .before in
     let a = s .args in
-    omega (
-      arith,
-      s .good,
-      head-next (a .n) (a .held) (a .folds) (a .rounds) (a .text .now) (s .pre) _ _ (w .put-field .ensures .1) (w .put-field .ensures .0)
-          _ _ (x .put-field2 .ensures .1) (x .put-field2 .ensures .0) _ _ (y .put-field3 .ensures .1) (y .put-field3 .ensures .0)
-          _ _ (z .put-field4 .ensures .1) (z .put-field4 .ensures .0),
-    )
+    omega (arith, s .good, line-next _ (a .text .now) (s .pre) _ _ (after-rounds (a .n) (a .held) (a .folds) (a .rounds) (a .text .now) (s .pre) _ _ (w .put-field .ensures .1) (w .put-field .ensures .0) _ _ (x .put-field2 .ensures .1) (x .put-field2 .ensures .0) _ _ (y .put-field3 .ensures .1) (y .put-field3 .ensures .0) _ _ (z .put-field4 .ensures .1) (z .put-field4 .ensures .0)))
 
 same-length : tie.Need-same-length
 same-length c =
@@ -73,9 +64,7 @@ same-length c =
     let w = x .before .before .before .before .before in
     let s = w .before .before .before .before in
     let a = s .args in
-    head-length (a .n) (a .held) (a .folds) (a .rounds) (a .text .now) (s .pre) _ _ (w .put-field .ensures .1) (w .put-field .ensures .0)
-    _ _ (x .put-field2 .ensures .1) (x .put-field2 .ensures .0) _ _ (y .put-field3 .ensures .1) (y .put-field3 .ensures .0)
-    _ _ (z .put-field4 .ensures .1) (z .put-field4 .ensures .0)
+    line-length _ (a .text .now) (s .pre) _ _ (after-rounds (a .n) (a .held) (a .folds) (a .rounds) (a .text .now) (s .pre) _ _ (w .put-field .ensures .1) (w .put-field .ensures .0) _ _ (x .put-field2 .ensures .1) (x .put-field2 .ensures .0) _ _ (y .put-field3 .ensures .1) (y .put-field3 .ensures .0) _ _ (z .put-field4 .ensures .1) (z .put-field4 .ensures .0))
 
 returns : tie.Need-returns
 returns c =
@@ -84,14 +73,9 @@ returns c =
     let x = y .before .before .before .before .before in
     let w = x .before .before .before .before .before in
     let s = w .before .before .before .before in
-    let a = s .args in (
-      head-next (a .n) (a .held) (a .folds) (a .rounds) (a .text .now) (s .pre) _ _ (w .put-field .ensures .1) (w .put-field .ensures .0)
-          _ _ (x .put-field2 .ensures .1) (x .put-field2 .ensures .0) _ _ (y .put-field3 .ensures .1) (y .put-field3 .ensures .0)
-          _ _ (z .put-field4 .ensures .1) (z .put-field4 .ensures .0),
-      head-put (a .n) (a .held) (a .folds) (a .rounds) (a .text .now) (s .pre) _ _ (w .put-field .ensures .1) (w .put-field .ensures .0)
-          _ _ (x .put-field2 .ensures .1) (x .put-field2 .ensures .0) _ _ (y .put-field3 .ensures .1) (y .put-field3 .ensures .0)
-          _ _ (z .put-field4 .ensures .1) (z .put-field4 .ensures .0),
-    )
+    let a = s .args in
+    let end = (after-rounds (a .n) (a .held) (a .folds) (a .rounds) (a .text .now) (s .pre) _ _ (w .put-field .ensures .1) (w .put-field .ensures .0) _ _ (x .put-field2 .ensures .1) (x .put-field2 .ensures .0) _ _ (y .put-field3 .ensures .1) (y .put-field3 .ensures .0) _ _ (z .put-field4 .ensures .1) (z .put-field4 .ensures .0)) in
+    (line-next _ (a .text .now) (s .pre) _ _ end, line-put _ (a .text .now) (s .pre) _ _ end)
 
 pub put-head-spec : {M : Type 1} → statement M
 put-head-spec =
