@@ -111,6 +111,10 @@ unfolding allOf
 all-append p [] t = refl
 all-append p (b ∷ s) t = either (p b) (λ e. rw e (all-append p s t)) (λ e. rw e)
 
+-- two runs that pass, one after the other
+pub all-both : (p : ℕ → Bool) (s t : Bytes) → allOf p s ≡ true → allOf p t ≡ true → allOf p (s ++ t) ≡ true
+all-both p s t a b = all-append p s t ∙ and-make a b
+
 -- bytes that pass one test pass a wider one
 pub all-wider : (p q : ℕ → Bool) → ((b : ℕ) → p b ≡ true → q b ≡ true) → (s : Bytes) → allOf p s ≡ true → allOf q s ≡ true
 all-wider p q h [] e = all-nil q

@@ -23,7 +23,8 @@ use Rattle.solving.specs.Plain.{PlainOutcome, plainOf, plainCall}
 use Rattle.solving.specs.Solve.{SolveAreas}
 use Rattle.solving.proofs.Staged.{book-formed, book-long}
 use Rattle.solving.proofs.Plain.{long-plain, plain-good}
-use Rattle.known.specs.Known.{Known, Route, plainOn, plainHolds, answersPlain, answersAll, agrees, allAgree}
+use Rattle.known.specs.Known.{Known}
+use Rattle.known.specs.Test.{Route, plainOn, plainHolds, answersPlain, answersAll, agrees, allAgree}
 
 -- the rounds over the rules, the tables not judged
 abbrev pub unjudged : Route

@@ -21,7 +21,7 @@ use Rattle.systems.specs.Rounds.{withModel}
 use Rattle.solving.specs.Plain.{plainOf}
 use Rattle.solving.specs.Listing.{figures, decimal, headLine, heldNames, listingLines, listed}
 use Rattle.solving.specs.Solve.{shortAreas, answerOf, solvedAreas, solveRead, solveCall}
-use Rattle.known.specs.Known.{oldAreas, sameNames, spelt, listingIn, headThen, holds, plainHolds, says, saysAll, answers, answersEach, answersAll, answersPlain, agrees, allAgree}
+use Rattle.known.specs.Test.{oldAreas, sameNames, spelt, listingIn, headThen, holds, plainHolds, says, saysAll, answers, answersEach, answersAll, answersPlain, agrees, allAgree}
 use Rattle.known.specs.Table.{books, settled}
 use Rattle.known.proofs.Plain.{unjudged, all-agree}
 

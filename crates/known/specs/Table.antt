@@ -5,7 +5,8 @@
 use mathlib.Core.Bool.{Bool}
 use mathlib.Core.List.{List, [], _∷_}
 use Rattle.solving.specs.Plain.{plainCall}
-use Rattle.known.specs.Known.{Known, rounds, counts, has, lists, for, book, zeroToEight, oldAreas, allAgree}
+use Rattle.known.specs.Known.{Known, rounds, counts, has, lists, for, book, zeroToEight}
+use Rattle.known.specs.Test.{oldAreas, allAgree}
 
 abbrev pub books : List Known
 books =

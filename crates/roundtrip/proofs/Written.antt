@@ -10,11 +10,11 @@ use lib.ListN.{length, getD}
 use borrow.Author.Tests.{ne-eqb}
 use Rattle.limits.specs.Book.{names}
 use Rattle.sets.specs.Set.{members}
-use Rattle.sets.proofs.Logic.{and-left, and-right, and-make, not-of-false}
+use Rattle.sets.proofs.Logic.{and-left, and-right, not-of-false}
 use Rattle.program.specs.Program.{Rule}
 use Rattle.grammar.specs.Bytes.{Bytes, Folding, blank, notEnd, nameByte, allOf, colon, space}
 use Rattle.grammar.specs.Grammar.{Name, Parted, Body, Clause, rule, Says, Unbroken}
-use Rattle.grammar.proofs.Spans.{all-append, all-wider}
+use Rattle.grammar.proofs.Spans.{all-both, all-wider}
 use Rattle.tables.specs.Reading.{Saying, Fits, Book}
 use Rattle.tables.specs.Writing.{spacedOn, spaced, ruleText, written, own}
 use Rattle.tables.proofs.Good.{Good, own-is, own-some, good-unbroken}
@@ -92,13 +92,13 @@ module _ (fold : ℕ → ℕ) (folding : Folding fold) where
   on-unbroken : (xs : List Bytes) → AllGood xs → allOf notEnd (spacedOn xs) ≡ true
   unfolding AllGood spacedOn allOf notEnd
   on-unbroken [] g = refl
-  on-unbroken (n ∷ ns) g = all-append notEnd n (spacedOn ns) ∙ and-make (good-unbroken fold folding (g .0)) (on-unbroken ns (g .1))
+  on-unbroken (n ∷ ns) g = all-both notEnd n (spacedOn ns) (good-unbroken fold folding (g .0)) (on-unbroken ns (g .1))
 
   -- nor does the first
   spaced-unbroken : (xs : List Bytes) → AllGood xs → allOf notEnd (spaced xs) ≡ true
   unfolding AllGood spaced allOf
   spaced-unbroken [] g = refl
-  spaced-unbroken (n ∷ ns) g = all-append notEnd n (spacedOn ns) ∙ and-make (good-unbroken fold folding (g .0)) (on-unbroken ns (g .1))
+  spaced-unbroken (n ∷ ns) g = all-both notEnd n (spacedOn ns) (good-unbroken fold folding (g .0)) (on-unbroken ns (g .1))
 
   module _ (ns : List Bytes) (good : (a : ℕ) → a < length ns → Good fold (getD ns a [])) where
     -- the names of numbers that are below their count are folded names
@@ -136,8 +136,8 @@ module _ (fold : ℕ → ℕ) (folding : Folding fold) where
     line-unbroken r l b =
         let xs : List Bytes = spelled ns (members names (r .body) 0) in
         let h : Bytes = getD ns (r .head) [] in
-        all-append notEnd h (colon ∷ spaced xs)
-        ∙ and-make (good-unbroken fold folding (good (r .head) l)) (spaced-unbroken xs (good-spelled (members names (r .body) 0) b))
+        all-both notEnd h (colon ∷ spaced xs) (good-unbroken fold folding (good (r .head) l))
+        (spaced-unbroken xs (good-spelled (members names (r .body) 0) b))
 
     -- all lines do
     lines-say : (rs : List (Rule ℕ)) → RulesBelow (length ns) rs → Saying fold (map (ruleText ns) rs) (map (clauseOf ns) rs)

@@ -9,7 +9,7 @@ use lib.Dec.{ltb}
 use lib.ListN.{length, getD, length-append, List·getD-append, List·getD-eq-default}
 use lib.Seq.{getD-append-add}
 use borrow.Author.Tests.{ltb-true, ltb-false, lt-ltb, le-ltb}
-use Rattle.limits.specs.Book.{names, nameBytes, atoms, folds, listingBytes}
+use Rattle.limits.specs.Book.{names, nameBytes, atoms, folds}
 use Rattle.sets.specs.Set.{Set, count, members}
 use Rattle.sets.proofs.Logic.{either, pick-true, pick-false}
 use Rattle.sets.proofs.Counting.{count-le}
@@ -17,7 +17,7 @@ use Rattle.sets.proofs.Walk.{members-count}
 use Rattle.grammar.specs.Bytes.{Bytes, lineEnd}
 use Rattle.grammar.specs.Grammar.{joined}
 use Rattle.solving.specs.Listing.{figure, figures, decimal, headLine, heldNames, listingLines}
-use Rattle.solving.specs.ListingClaims.{valueFrom, Decimal}
+use Rattle.solving.specs.ListingClaims.{valueFrom, Decimal, longestListing}
 
 -- a number below ten is one figure
 pub figures-one : (places n : ℕ) → n < 10 → figures (suc places) n ≡ figure n ∷ []
@@ -165,21 +165,21 @@ names-fit ns f l h =
         (λ t. omega (arith, ap length (List·getD-eq-default ns [] {n = a} (ltb-false _ _ t))))
 
 -- the head line
-pub head-short : (n held k rounds : ℕ) → n ≤ names → held ≤ names → k ≤ folds → rounds ≤ atoms + 1 → length (headLine n held k rounds) ≤ 48
-unfolding headLine
+pub head-short : (n held k rounds : ℕ) → n ≤ names → held ≤ names → k ≤ folds → rounds ≤ atoms + 1 → length (headLine n held k rounds) ≤ 46
+unfolding headLine decimal
 head-short n held k rounds a b c d =
     simp length-append
     (omega (
       arith,
       decimal-short n (omega arith),
       decimal-short held (omega arith),
-      decimal-short k (omega arith),
+      figures-short (suc k) k 0 (omega arith),
       decimal-short rounds (omega arith),
     ))
 
--- the listing's text has room in its area
+-- the listing's text is no longer than the longest, so it has room in its area
 pub listing-fits : (ns : List Bytes) (f : Set) (k rounds : ℕ) → length ns ≤ names → k ≤ folds → rounds ≤ atoms + 1
-    → ((a : ℕ) → a < length ns → length (getD ns a []) ≤ nameBytes) → length (joined (listingLines ns f k rounds)) ≤ listingBytes
+    → ((a : ℕ) → a < length ns → length (getD ns a []) ≤ nameBytes) → length (joined (listingLines ns f k rounds)) ≤ longestListing
 unfolding listingLines joined
 listing-fits ns f k rounds l c d h =
     let held : ℕ = count (length ns) f in

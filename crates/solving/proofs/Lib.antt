@@ -6,5 +6,6 @@ pub mod Models
 pub mod Holds
 pub mod Plain
 pub mod Decimal
+pub mod Printable
 pub mod Lists
 pub mod Theorems

@@ -2,22 +2,18 @@
 -- Assumes nothing.
 use mathlib.Core.Path.{_≡_, refl, sym, ap, _∙_, subst}
 use mathlib.Core.Logic.{inl, inr, _↔_}
-use mathlib.Core.Bool.{Bool, true}
-use mathlib.Core.List.{List, [], _∷_, _++_, map}
+use mathlib.Core.Bool.{true}
+use mathlib.Core.List.{List, [], _∷_, map}
 use Prim.Native.Nat.{ℕ, zero, suc, _+_, _≤_, _<_}
 use native.Mathlib.Omega.{arith}
-use lib.Dec.{eqb}
 use lib.ListN.{length, getD, length-map}
-use borrow.Author.Tests.{ne-eqb}
 use Rattle.sets.specs.Set.{Set, Same, count, members}
-use Rattle.sets.proofs.Logic.{and-make, not-of-false}
 use Rattle.sets.proofs.Counting.{count-same}
 use Rattle.sets.proofs.Walk.{Walked, members-count, walked}
 use Rattle.program.specs.System.{System, folded, roundsOf, heldBy}
 use Rattle.program.specs.Standard.{helper, standard}
-use Rattle.grammar.specs.Bytes.{Bytes, Folding, lineEnd, notEnd, allOf, bytes, Among}
+use Rattle.grammar.specs.Bytes.{Bytes, Folding, notEnd, allOf, Among}
 use Rattle.grammar.specs.Grammar.{Unbroken}
-use Rattle.grammar.proofs.Spans.{all-nil, all-cons, all-append}
 use Rattle.tables.specs.Numbering.{place, namesOf, programOf}
 use Rattle.tables.specs.Areas.{tablesOf, lookUp}
 use Rattle.tables.proofs.Numbering.{numbers}
@@ -26,11 +22,12 @@ use Rattle.tables.proofs.Theorems.{read-good-at, read-fine}
 use Rattle.systems.specs.Rounds.{modelIn, withModel}
 use Rattle.systems.specs.Rows.{below}
 use Rattle.systems.proofs.Running.{model-below}
-use Rattle.solving.specs.Listing.{decimal, headLine, heldNames, listingLines, listed}
+use Rattle.solving.specs.Listing.{heldNames, listingLines, listed}
 use Rattle.solving.specs.Solve.{SolveAreas, SolveOutcome, answerOf, solvedAreas, solveCall}
 use Rattle.solving.specs.Held.{HeldIn}
 use Rattle.solving.specs.ListingClaims.{Lists}
-use Rattle.solving.proofs.Decimal.{decimals, listing-fits}
+use Rattle.solving.proofs.Decimal.{listing-fits}
+use Rattle.solving.proofs.Printable.{not-ends, head-all, listing-nonzero}
 use Rattle.solving.proofs.Judging.{Solved, solved-of, look-up-read}
 use Rattle.solving.proofs.Past.{rounds-limit}
 
@@ -63,37 +60,6 @@ lines-of : (g : ℕ → Bytes) (xs : List ℕ) → ((i : ℕ) → i < length xs 
 unfolding Unbroken
 lines-of g [] h = tt
 lines-of g (a ∷ xs) h = (h zero (omega arith), lines-of g xs (λ i l. h (suc i) (omega arith)))
-
--- every byte by its place
-all-make : (p : ℕ → Bool) (s : Bytes) → ((i : ℕ) → i < length s → p (getD s i 0) ≡ true) → allOf p s ≡ true
-all-make p [] h = all-nil p
-all-make p (b ∷ s) h = all-cons p b s (h zero (omega arith)) (all-make p s (λ i l. h (suc i) (omega arith)))
-
--- figures end no line
-decimal-unbroken : (n : ℕ) → allOf notEnd (decimal n) ≡ true
-unfolding notEnd
-decimal-unbroken n =
-    all-make notEnd (decimal n)
-    (λ i l.
-    let low : 48 ≤ getD (decimal n) i 0 = decimals n .figures i l .0 in
-    let b : ℕ = getD (decimal n) i 0 in
-    not-of-false (eqb b lineEnd) (ne-eqb b lineEnd (λ e. omega arith)))
-
--- two runs without one
-all-both : (s t : Bytes) → allOf notEnd s ≡ true → allOf notEnd t ≡ true → allOf notEnd (s ++ t) ≡ true
-all-both s t a b = all-append notEnd s t ∙ and-make a b
-
--- nor does anything in the head line
-head-unbroken : (n held k rounds : ℕ) → allOf notEnd (headLine n held k rounds) ≡ true
-unfolding headLine
-head-unbroken n held k rounds =
-    all-both (bytes "DPL 0001 names=") _ (unfold allOf notEnd in refl)
-    (all-both (decimal n) _ (decimal-unbroken n)
-    (all-both (bytes " held=") _ (unfold allOf notEnd in refl)
-    (all-both (decimal held) _ (decimal-unbroken held)
-    (all-both (bytes " folds=") _ (unfold allOf notEnd in refl)
-    (all-both (decimal k) _ (decimal-unbroken k)
-    (all-both (bytes " rounds=") (decimal rounds) (unfold allOf notEnd in refl) (decimal-unbroken rounds)))))))
 
 module _ (fold : ℕ → ℕ) (folding : Folding fold) where
   module _ (t : Bytes) (k : ℕ) (old : SolveAreas) (s : Solved fold t k old) where
@@ -168,8 +134,9 @@ module _ (fold : ℕ → ℕ) (folding : Folding fold) where
           fits =
               listing-fits ns f k (roundsOf rows) (s .fits .names-fit) (s .range .2) (rounds-limit (s .cs) k (s .few))
               (λ a l. read-fine fold folding t (s .cs) (s .reads) a l .0);
+          text = listing-nonzero ns (read-fine fold folding t (s .cs) (s .reads)) f k (roundsOf rows);
           lines = unfold Unbroken in (
-            head-unbroken (length ns) (count (length ns) f) k (roundsOf rows),
+            head-all notEnd not-ends (length ns) (count (length ns) f) k (roundsOf rows),
             lines-of (λ a. getD ns a []) xs
                 (λ i l. good-unbroken fold folding (read-good-at fold folding t (s .cs) (s .reads) (getD xs i 0) (walk .stop i l .1))),
           );

@@ -105,7 +105,7 @@ solved-past cs k old fits short l few =
       model = model-rest (below (s .atoms) (heldBy s)) (old .model);
       listing =
           drop-filled listingBytes (joined (listingLines (namesOf cs) (heldBy s) k (roundsOf s))) (old .listing)
-          (listing-fits (namesOf cs) (heldBy s) k (roundsOf s) (fits .names-fit) l (rounds-limit cs k few) short);
+          (omega (arith, listing-fits (namesOf cs) (heldBy s) k (roundsOf s) (fits .names-fit) l (rounds-limit cs k few) short));
     }
 
 -- what lies past the stated sizes is as it was, however the call ends

@@ -1,6 +1,7 @@
 pub mod Plain
 pub mod Listing
 pub mod Solve
+pub mod Stated
 pub mod Models
 pub mod Held
 pub mod PlainClaims

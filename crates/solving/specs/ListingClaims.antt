@@ -6,10 +6,10 @@ use mathlib.Core.Bool.{true}
 use mathlib.Core.List.{List, [], _∷_}
 use Prim.Native.Nat.{ℕ, _+_, _-_, _*_, _≤_, _<_}
 use lib.ListN.{length, getD}
-use Rattle.limits.specs.Book.{listingBytes}
-use Rattle.grammar.specs.Bytes.{Bytes, Among}
+use Rattle.limits.specs.Book.{names, nameBytes, listingBytes}
+use Rattle.grammar.specs.Bytes.{Bytes, allOf, Among}
 use Rattle.grammar.specs.Grammar.{Unbroken, joined}
-use Rattle.tables.specs.Areas.{lookUp, filled}
+use Rattle.tables.specs.Areas.{lookUp, filled, nonzero}
 use Rattle.systems.specs.Rounds.{modelIn}
 use Rattle.solving.specs.Listing.{headLine}
 use Rattle.solving.specs.Solve.{SolveOutcome}
@@ -32,11 +32,18 @@ pub record Decimal (n : ℕ) (s : Bytes) : Type 0 where
 abbrev pub headOf : SolveOutcome → ℕ → Bytes
 headOf r k = headLine (r .answer .names) (r .answer .held) k (r .answer .rounds)
 
+-- The most bytes that a listing's text has: the head line, which takes 46 where the folds have one figure and each other number three, and the
+-- most names, each of the longest; with their line ends. That is 4,271.
+abbrev pub longestListing : ℕ
+longestListing = (46 + 1) + names * (nameBytes + 1)
+
 -- The listing: its lines are the head line and the held names, one line for each and for no other, in number order; zeros follow.
 pub record Lists (r : SolveOutcome) (k : ℕ) (old : Bytes) : Type 0 where
   pub held : List Bytes
   pub area : r .areas .listing ≡ filled listingBytes (joined (headOf r k ∷ held)) old
-  pub fits : length (joined (headOf r k ∷ held)) ≤ listingBytes
+  -- the text has no zero byte and is shorter than the area: so a zero follows it
+  pub fits : length (joined (headOf r k ∷ held)) ≤ longestListing
+  pub text : allOf nonzero (joined (headOf r k ∷ held)) ≡ true
   pub lines : Unbroken (headOf r k ∷ held)
   pub only : (x : Bytes) → Among x held ↔ Held r x
   pub one-each : length held ≡ r .answer .held

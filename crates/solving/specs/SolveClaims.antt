@@ -41,6 +41,10 @@ pub record SolveLong (o : SolveAreas) : Type 0 where
 abbrev pub InRange : Bytes → ℕ → SolveAreas → Type 0
 InRange t k old = SolveLong old × (length t ≤ textBytes) × (k ≤ folds)
 
+-- the highest number of a refusal that the solver gives: 10, 11 and 12 cannot occur
+abbrev pub highestRefusal : ℕ
+highestRefusal = 9
+
 -- each number exactly where document 01 gives it, and what is left then: r is what the call returns and leaves
 pub record SolveJudges (fold : ℕ → ℕ) (t : Bytes) (k : ℕ) (old : SolveAreas) (r : SolveOutcome) : Type 0 where
   pub accepts : (r .answer .number ≡ 0)
@@ -52,8 +56,8 @@ pub record SolveJudges (fold : ℕ → ℕ) (t : Bytes) (k : ℕ) (old : SolveAr
   pub text : (q line : ℕ) → 3 ≤ q → q ≤ 7 → ((r .answer .number ≡ q) × (r .answer .line ≡ line)) ↔ (InRange t k old × Refusal fold t q line)
   pub over-atoms : (r .answer .number ≡ 8)
       ↔ (InRange t k old × ((cs : List Clause) × Book fold t cs × (atoms < standard (programOf cs) .atoms)))
-  -- no other number: 10, 11 and 12 cannot occur
-  pub no-other : r .answer .number ≤ 9
+  -- no other number
+  pub no-other : r .answer .number ≤ highestRefusal
   -- what is returned and left: on acceptance, on refusal 8, and on the others
   pub solved : (cs : List Clause) → Book fold t cs → r .answer .number ≡ 0
       → r ≡ record { answer = answerOf (programOf cs) k; areas = solvedAreas cs k old }

@@ -101,7 +101,7 @@ part-nameRows (n ∷ ns) rest h (suc a) l =
     ∙ part-nameRows ns rest (λ a l. h (suc a) (omega arith)) a (omega arith)
 
 -- the run of non-zero bytes before zeros
-span-zeros : (n : Bytes) (k : ℕ) → allOf nonzero n ≡ true → span nonzero (n ++ replicate k 0) ≡ length n
+pub span-zeros : (n : Bytes) (k : ℕ) → allOf nonzero n ≡ true → span nonzero (n ++ replicate k 0) ≡ length n
 unfolding span allOf nonzero pick
 span-zeros [] zero h = refl
 span-zeros [] (suc k) h = refl
