@@ -17,12 +17,13 @@ use Rattle.words.proofs.Rows.{length-pack, pack-same, row-zero}
 use Rattle.words.proofs.Areas.{put-over}
 use Rattle.program.specs.Program.{Program}
 use Rattle.program.specs.Standard.{standard}
-use Rattle.rows.specs.Clear.{cleared}
+use Rattle.rows.specs.Clear.{cleared, Clear}
 use Rattle.tables.specs.Areas.{filled}
 use Rattle.tables.specs.Begun.{begun}
-use Rattle.tables.proofs.Encoding.{length-begun, begun-filled}
+use Rattle.tables.proofs.Encoding.{length-begun}
 use Rattle.systems.specs.Rows.{rowIn, packed}
-use Rattle.systems.proofs.Packed.{length-packed, packed-same, packed-empty, wide-pack, row-in-past, row-begun, rows-next, put-row, zeros-front}
+use Rattle.systems.proofs.Packed.{length-packed, packed-same, packed-empty, wide-pack, row-in-past, row-begun, rows-next, put-row}
+use Rattle.systems.proofs.Clearing.{tail-cleared, tail-clear, front-cleared}
 use Rattle.placing.specs.Partial.{withRow, withRows}
 
 -- a row of v + w words at `at`, cleared
@@ -73,33 +74,32 @@ alone-next i at old area mid new l h e q p r =
     (fresh-row at rowWords 0 area (omega arith) (only i) mid new (λ a b. ne-eqb i a (λ (z : i ≡ a). omega arith)) p r
     ∙ ap (λ (k : ℕ). put k (pack rowWords (only i)) area) e)
 
--- an area begun with xs and cleared past them is filled with them
-pub tail-cleared : (size u : ℕ) (xs old mid new : List ℕ) → u ≡ length xs → length xs ≤ size → mid ≡ begun xs old → new ≡ cleared u size mid
-    → new ≡ filled size xs old
-tail-cleared size u xs old mid new e l p q =
-    q ∙ ap₂ (λ (k : ℕ) (ys : List ℕ). cleared k size ys) e p ∙ begun-filled size xs old l
-
--- cleared from its front, an area is begun with zeros
-front-cleared : (u : ℕ) (old new : List ℕ) → new ≡ cleared 0 u old → new ≡ begun (replicate u 0) old
-front-cleared u old new p =
-    let all : u - 0 ≡ u = omega arith in
-    p ∙ ap (λ (k : ℕ). replicate k 0 ++ drop u old) all ∙ zeros-front u old
-
 -- the "all" rows alone, and zeros past them
 pub all-begun : (k u : ℕ) (old mid new : List ℕ) → k ≤ atoms → u ≡ k * rowWords → mid ≡ begun (packed rowWords k only) old → new ≡ cleared u rowArea mid
     → new ≡ filled rowArea (packed rowWords k only) old
-all-begun k u old mid new l e =
-    tail-cleared rowArea u (packed rowWords k only) old mid new (e ∙ sym (length-packed rowWords k only))
-    (omega (arith, length-packed rowWords k only))
+all-begun k u old mid new l e p =
+    tail-cleared rowArea u (packed rowWords k only) old mid (e ∙ sym (length-packed rowWords k only))
+    (omega (arith, length-packed rowWords k only)) p new
 
 -- the "any" rows empty, and zeros past them
 pub any-begun : (k u : ℕ) (old mid new : List ℕ) → k ≤ atoms → u ≡ k * rowWords → mid ≡ cleared 0 u old → new ≡ cleared u rowArea mid
     → new ≡ filled rowArea (packed rowWords k (λ i. emptySet)) old
 any-begun k u old mid new l e p q =
     let none : ℕ → Set = λ i. emptySet in
-    tail-cleared rowArea u (packed rowWords k none) old mid new (e ∙ sym (length-packed rowWords k none))
+    tail-cleared rowArea u (packed rowWords k none) old mid (e ∙ sym (length-packed rowWords k none))
     (omega (arith, length-packed rowWords k none))
-    (front-cleared u old mid p ∙ ap (λ (xs : List ℕ). begun xs old) (ap (λ (n : ℕ). replicate n 0) e ∙ sym (packed-empty rowWords k))) q
+    (front-cleared u old mid p ∙ ap (λ (xs : List ℕ). begun xs old) (ap (λ (n : ℕ). replicate n 0) e ∙ sym (packed-empty rowWords k))) new q
+
+-- neither area has a stale row past them, where it was clear before
+pub all-clear : (k u : ℕ) (old mid : List ℕ) → k ≤ atoms → u ≡ k * rowWords → mid ≡ begun (packed rowWords k only) old → Clear rowArea old
+    → cleared u rowArea mid ≡ mid
+all-clear k u old mid l e =
+    tail-clear rowArea u (packed rowWords k only) old mid (e ∙ sym (length-packed rowWords k only)) (omega (arith, length-packed rowWords k only))
+
+pub any-clear : (k u : ℕ) (old mid : List ℕ) → k ≤ atoms → u ≡ k * rowWords → mid ≡ cleared 0 u old → Clear rowArea old → cleared u rowArea mid ≡ mid
+any-clear k u old mid l e p =
+    let n : length (replicate {A = ℕ} u 0) ≡ u = length-replicate u 0 in
+    tail-clear rowArea u (replicate u 0) old mid (sym n) (omega arith) (front-cleared u old mid p)
 
 -- whether rule j has a body, `none` being the test of its words
 module _ (bodies : List ℕ) (j from : ℕ) (none : Bool) (e : from ≡ j * bodyWords)

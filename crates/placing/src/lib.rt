@@ -1,9 +1,11 @@
 // The rows, the start set and c of a program, its rules placed one by one.
 use limits::Book;
 ghost use mathlib.Core.Path.{_≡_};
+ghost use mathlib.Core.Bool.{true};
 ghost use Prim.Native.Nat.{_*_, _<_, _≤_};
 ghost use lib.ListN.{length};
 ghost use Rattle.limits.specs.Book.{rules, atoms, wordBits, rowWords, bodyWords, bodyArea, rowArea};
+ghost use Rattle.rows.specs.Clear.{Clear};
 ghost use Rattle.sets.specs.Set.{pick, exists, count, only, union, emptySet};
 ghost use Rattle.program.specs.Standard.{hasBody, allRow, anyRow, startSet};
 ghost use Rattle.tables.specs.Areas.{filled, programIn};
@@ -26,18 +28,20 @@ fn alone(all: &mut [u64], count: usize)
     }
 }
 
-// The rows of `count` atoms before any rule is placed; each area is cleared from its first unused row to its end.
-pub fn begin(count: usize, all: &mut [u64], any: &mut [u64], model: &mut [u64])
+// The rows of `count` atoms before any rule is placed; each area is cleared from its first unused row to its end, unless it is known to be
+// clear (fresh).
+pub fn begin(count: usize, all: &mut [u64], any: &mut [u64], model: &mut [u64], fresh: bool)
     requires { ⌜ (count ≤ atoms) × (rowArea ≤ length (now all)) × (rowArea ≤ length (now any)) × (rowWords ≤ length (now model)) ⌝ }
+    requires { ⌜ (fresh ≡ true → Clear rowArea (now all) × Clear rowArea (now any)) ⌝ }
     ensures all { λ r. ⌜ now (all .exit) ≡ filled rowArea (packed rowWords count only) (now (all .entry)) ⌝ }
     ensures any { λ r. ⌜ now (any .exit) ≡ filled rowArea (packed rowWords count (λ i. emptySet)) (now (any .entry)) ⌝ }
     ensures model { λ r. ⌜ now (model .exit) ≡ withModel emptySet (now (model .entry)) ⌝ }
 {
     let unused = Book::row_at(count);
     alone(all, count);
-    rows::clear::clear_tail64(all, unused, Book::ROW_AREA);
+    rows::clear::clear_stale64(all, unused, Book::ROW_AREA, fresh);
     rows::clear::clear_tail64(any, 0, unused);
-    rows::clear::clear_tail64(any, unused, Book::ROW_AREA);
+    rows::clear::clear_stale64(any, unused, Book::ROW_AREA, fresh);
     rows::clear::clear_tail64(model, 0, Book::ROW_WORDS);
 }
 

@@ -9,14 +9,14 @@ use lib.Dec.{leb, ltb}
 use lib.ListN.{length}
 use borrow.Author.Tests.{lt-ltb, le-ltb, leb-true, leb-false, not-true, not-false}
 use Rattle.limits.specs.Book.{atoms, wordBits, rowWords, rowArea}
-use Rattle.sets.specs.Set.{Set, within, next}
+use Rattle.sets.specs.Set.{Set, pick, within, next}
 use Rattle.sets.proofs.Logic.{either, or-left, or-right, pick-true, pick-false}
 use Rattle.program.specs.System.{System, roundsOf, heldBy}
 use Rattle.systems.specs.Rows.{below, formedRows}
 use Rattle.systems.specs.Fold.{formedAll}
-use Rattle.systems.specs.Rounds.{modelIn, withModel, systemIn, shortSystem, formedSystem, startKept, runOf, roundsCall}
+use Rattle.systems.specs.Rounds.{modelIn, withModel, systemIn, shortSystem, formedSystem, startKept, roundsRefusal, runOf, roundsCall}
 use Rattle.systems.specs.Claims.{RoundsLong}
-use Rattle.systems.proofs.Running.{long-at, model-again, length-model, kept-test}
+use Rattle.systems.proofs.Running.{long-at, long-make, order-make, model-again, length-model, kept-test, runs}
 use Rattle.rowcheck.proofs.Counted.{none-past, some-past, passed}
 use Rattle.rounds.specs.Step.{nextSet, Ready}
 use Rattle.rounds.proofs.Turns.{few, start-ends, made-round}
@@ -35,10 +35,6 @@ module _ (all any model : List ℕ) where
   pub lack-model : rowArea ≤ length all → rowArea ≤ length any → ltb (length model) rowWords ≡ shortSystem all any model
   unfolding shortSystem
   lack-model p q = sym (rw (le-ltb (length all) rowArea p, le-ltb (length any) rowArea q))
-
-  -- areas that are not too short, `low` being the test
-  pub long : (low : Bool) → low ≡ shortSystem all any model → low ≡ false → RoundsLong all any model
-  long low e f = long-at all any model (sym e ∙ f)
 
   module _ (m : ℕ) where
     abbrev startIn : Bool
@@ -81,15 +77,8 @@ module _ (all any model : List ℕ) where
                   (λ t. t ∙ sym (none-past (rowWords * wordBits) m (modelIn model) r q (leb-true atoms r t)))
                   (λ t. t ∙ sym (some-past (rowWords * wordBits) m (modelIn model) r q (passed all m ok e f .0) (leb-false atoms r t)))
 
-    -- rows and start set in order have a count within its limit
-    pub limit : (ok : Bool) → ok ≡ formedSystem all any model m → not ok ≡ false → m ≤ atoms
-    limit ok e f = few all any model m (sym e ∙ not-false ok f)
-
 -- `low` is whether an area is too short, `ok` whether rows and start set are in order
 module _ (all any model : List ℕ) (m : ℕ) (low : Bool) (e : low ≡ shortSystem all any model) where
-  abbrev s : System
-  s = systemIn all any model m
-
   -- an area too short: 1
   pub call-short : low ≡ true → record { number = 1; rounds = 0; model = model } ≡ roundsCall all any model m
   unfolding roundsCall
@@ -101,12 +90,27 @@ module _ (all any model : List ℕ) (m : ℕ) (low : Bool) (e : low ≡ shortSys
     unfolding roundsCall
     call-ill h = sym (pick-false _ _ (sym e ∙ f) ∙ pick-false _ _ (sym g ∙ not-true ok h))
 
-    -- `after` is the set after round one, over what stood in `room`; `inside` is whether the start set lies within it
-    module _ (h : not ok ≡ false) (room after : List ℕ) (w : after ≡ withModel (below m (nextSet all any model)) room)
-        (inside : Bool) (q : inside ≡ within (rowWords * wordBits) (modelIn model) (modelIn after)) where
-      formed : formedSystem all any model m ≡ true
-      formed = sym g ∙ not-false ok h
+    -- neither
+    pub judged : not ok ≡ false → RoundsLong all any model × (formedSystem all any model m ≡ true)
+    judged h = (long-at all any model (sym e ∙ f), sym g ∙ not-false ok h)
 
+module _ (all any model : List ℕ) (m : ℕ) where
+  abbrev s : System
+  s = systemIn all any model m
+
+  -- rows that are not refused are long enough and in order
+  pub accepted : roundsCall all any model m .number ≡ 0 → RoundsLong all any model × (formedSystem all any model m ≡ true)
+  accepted z = let a = runs all any model m .accepts .0 z in (a .0, order-make all any model m (a .1))
+
+  -- the areas are long enough, rows and start set in order: no start atom lost decides
+  module _ (l : RoundsLong all any model) (formed : formedSystem all any model m ≡ true) where
+    past-tests : roundsCall all any model m ≡ pick (startKept s) (runOf s model) (roundsRefusal 11 model)
+    unfolding roundsCall
+    past-tests = pick-false _ _ (long-make all any model l) ∙ pick-true _ _ formed
+
+    -- `after` is the set after round one, over what stood in `room`; `inside` is whether the start set lies within it
+    module _ (room after : List ℕ) (w : after ≡ withModel (below m (nextSet all any model)) room)
+        (inside : Bool) (q : inside ≡ within (rowWords * wordBits) (modelIn model) (modelIn after)) where
       start-kept : startKept s ≡ inside
       start-kept =
           sym (kept-test s (rowWords * wordBits) (modelIn model) (modelIn after) (few all any model m formed) (start-ends all any model m formed)
@@ -115,18 +119,16 @@ module _ (all any model : List ℕ) (m : ℕ) (low : Bool) (e : low ≡ shortSys
 
       -- a start atom is lost: 11
       pub call-lost : not inside ≡ true → record { number = 11; rounds = 0; model = model } ≡ roundsCall all any model m
-      unfolding roundsCall
-      call-lost k =
-          sym (pick-false _ _ (sym e ∙ f) ∙ pick-true _ _ formed ∙ pick-false _ _ (start-kept ∙ not-true inside k))
+      call-lost k = sym (past-tests ∙ pick-false _ _ (start-kept ∙ not-true inside k))
 
       module _ (k : not inside ≡ false) where
         -- the rounds may go on
         pub ready : rowWords ≤ length room → Ready all any model after m
-        ready l =
+        ready b =
             let made : Set = below m (nextSet all any model) in
             record {
-              long = long all any model low e f;
-              room = omega (arith, ap length w, length-model made room l);
+              long = l;
+              room = omega (arith, ap length w, length-model made room b);
               formed = formed;
               kept = start-kept ∙ not-false inside k;
               made = w ∙ sym (model-again made made room) ∙ ap (withModel made) (sym w);
@@ -135,7 +137,7 @@ module _ (all any model : List ℕ) (m : ℕ) (low : Bool) (e : low ≡ shortSys
         -- the rounds: 0
         pub call-done : (t : ℕ) (out : List ℕ) → t ≡ roundsOf s → out ≡ withModel (below m (heldBy s)) model
             → record { number = 0; rounds = t; model = out } ≡ roundsCall all any model m
-        unfolding roundsCall runOf
+        unfolding runOf
         call-done t out u v =
             ap₂ (λ (a : ℕ) (b : List ℕ). record { number = 0; rounds = a; model = b }) u v
-            ∙ sym (pick-false _ _ (sym e ∙ f) ∙ pick-true _ _ formed ∙ pick-true _ _ (start-kept ∙ not-false inside k))
+            ∙ sym (past-tests ∙ pick-true _ _ (start-kept ∙ not-false inside k))

@@ -1,7 +1,8 @@
-// The public call that makes the rounds over rows, from a start set.
+// The public call that makes the rounds over rows, from a start set, and its work without the tests.
 use limits::Book;
 use limits::Refusal;
 ghost use mathlib.Core.Path.{_≡_};
+ghost use mathlib.Core.Bool.{true};
 ghost use Prim.Native.Nat.{_<_, _≤_};
 ghost use lib.ListN.{length};
 ghost use Rattle.limits.specs.Book.{atoms, rowWords};
@@ -87,7 +88,25 @@ fn until_still(all: &[u64], any: &[u64], model: &mut [u64], next: &mut [u64], m:
     count
 }
 
-// Makes the rounds over the first m atoms, from the start set in the model area, and leaves the last set there; a refusal leaves it as it was.
+// Makes the rounds over the first m atoms, from the start set in the model area, and leaves the last set there; a lost start atom leaves it
+// as it was. For a caller that knows rows and start set to be in order, as after standardising: they are not judged again.
+pub fn run_formed(all: &[u64], any: &[u64], model: &mut [u64], m: usize) -> Answer
+    requires { ⌜ RoundsLong (now all) (now any) (now model) × (formedSystem (now all) (now any) (now model) m ≡ true) ⌝ }
+    ensures { λ r. ⌜ record { number = r .number; rounds = r .rounds; model = now (model .exit) } ≡ roundsCall (now (all .entry)) (now (any .entry)) (now (model .entry)) m ⌝ }
+{
+    let mut next = [0u64; Book::ROW_WORDS];
+    step(all, any, model, &mut next, m);
+    if !rows::read::within(model, 0, &next, 0, Book::ROW_WORDS) {
+        return Answer {
+            number: Refusal::START_LOST,
+            rounds: 0,
+        };
+    }
+    let rounds = until_still(all, any, model, &mut next, m);
+    Answer { number: 0, rounds }
+}
+
+// Judges rows and start set, then makes the rounds; a refusal leaves the model area as it was.
 pub fn run(all: &[u64], any: &[u64], model: &mut [u64], m: usize) -> Answer
     ensures { λ r. ⌜ record { number = r .number; rounds = r .rounds; model = now (model .exit) } ≡ roundsCall (now (all .entry)) (now (any .entry)) (now (model .entry)) m ⌝ }
 {
@@ -103,14 +122,5 @@ pub fn run(all: &[u64], any: &[u64], model: &mut [u64], m: usize) -> Answer
             rounds: 0,
         };
     }
-    let mut next = [0u64; Book::ROW_WORDS];
-    step(all, any, model, &mut next, m);
-    if !rows::read::within(model, 0, &next, 0, Book::ROW_WORDS) {
-        return Answer {
-            number: Refusal::START_LOST,
-            rounds: 0,
-        };
-    }
-    let rounds = until_still(all, any, model, &mut next, m);
-    Answer { number: 0, rounds }
+    run_formed(all, any, model, m)
 }

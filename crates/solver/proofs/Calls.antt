@@ -1,7 +1,7 @@
 -- The outcomes of the call: laws over what each stage answers and leaves.
 -- Assumes nothing.
 use mathlib.Core.Path.{_≡_, refl, sym, ap, ap₂, _∙_, subst}
-use mathlib.Core.Bool.{Bool, false}
+use mathlib.Core.Bool.{Bool, true, false}
 use mathlib.Core.List.{List, []}
 use Prim.Native.Nat.{ℕ, suc, _+_, _*_, _≤_, _<_}
 use native.Mathlib.Omega.{arith}
@@ -10,7 +10,7 @@ use lib.ListN.{length}
 use borrow.Author.Tests.{lt-ltb, le-ltb, ltb-true, ltb-false}
 use Rattle.limits.specs.Book.{textBytes, names, nameBytes, atoms, folds, rowWords, nameArea, rowArea, listingBytes}
 use Rattle.sets.specs.Set.{Same, count}
-use Rattle.sets.proofs.Logic.{either, pick-true, pick-false}
+use Rattle.sets.proofs.Logic.{either, not-true, pick-true, pick-false}
 use Rattle.sets.proofs.Counting.{count-same}
 use Rattle.program.specs.Program.{Program, WellFormed}
 use Rattle.program.specs.System.{System, folded as after, roundsOf, heldBy}
@@ -28,10 +28,14 @@ use Rattle.tables.proofs.Calls.{refusal-range}
 use Rattle.tables.proofs.Judging.{reading-short}
 use Rattle.tables.proofs.Encoding.{length-nameRows, length-filled, names-filled}
 use Rattle.tables.proofs.Theorems.{judged, read-fits, read-fine}
-use Rattle.systems.specs.Rows.{packed, below}
-use Rattle.systems.specs.Fold.{FoldOutcome, foldCall}
-use Rattle.systems.specs.Rounds.{RoundsOutcome, modelIn, withModel, roundsCall}
-use Rattle.systems.specs.Standardise.{RowAreas, StandardOutcome, standardRefusal, standardRows, standardOf, standardCall}
+use Rattle.systems.specs.Rows.{packed, below, formedRows}
+use Rattle.systems.specs.Fold.{FoldOutcome, shortRows, foldedArea, foldCall}
+use Rattle.systems.specs.Rounds.{RoundsOutcome, modelIn, withModel, formedSystem, roundsCall}
+use Rattle.systems.specs.Standardise.{RowAreas, StandardOutcome, formedTables, standardRefusal, standardRows, standardOf, standardCall}
+use Rattle.systems.specs.Claims.{FoldLong, FoldFormed, RoundsLong, StandardLong}
+use Rattle.systems.proofs.Formed.{formed-make}
+use Rattle.systems.proofs.Folds.{rows-short, formed-all, fold-good, folds-rows}
+use Rattle.systems.proofs.Bridge.{tables-formed}
 use Rattle.systems.proofs.Running.{length-model, model-below, runs}
 use Rattle.systems.proofs.Standard.{standardWell}
 use Rattle.solving.specs.Listing.{listed}
@@ -39,7 +43,8 @@ use Rattle.solving.specs.Solve.{SolveAreas, SolveOutcome, shortAreas, solveRefu
 use Rattle.solving.specs.SolveClaims.{SolveLong}
 use Rattle.solving.proofs.Judging.{areas-long, long-tables, solve-short, solve-long-text, solve-over-folds, solve-in-range}
 use Rattle.solving.proofs.Judging.{solve-refused, solve-over-atoms, solve-solved}
-use Rattle.solving.proofs.Staged.{read-standard, standard-fold, folded-run}
+use Rattle.solving.proofs.Staged.{book-formed, book-long, read-standard, standard-fold, folded-run}
+use Rattle.rounds.proofs.Calls.{accepted}
 use Rattle.solver.specs.Range.{tooShort, rangeCause}
 use Rattle.solver.specs.declared.Answer.{Answer}
 use Rattle.solver.proofs.Range.{cause-short, cause-text, cause-folds, cause-none}
@@ -206,17 +211,7 @@ module _ (t : Bytes) (k : ℕ) (spellings : Bytes) (heads bodies all any spare m
         let w : 3 ≤ i = refusal-range folded t i j (judged folded folding .refuses t i j .0 b) .0 in
         absurd (omega (arith, ap (λ (o : Outcome). o .answer .number) d, none))
 
-    -- the tables are standardised, which answers q₂, a, c and h
-    module _ (none : q ≡ 0) (q₂ a c h : ℕ) (all₁ any₁ model₁ : List ℕ)
-        (g₂ : record { number = q₂; atoms = a; c = c; h = h; areas = record { all = all₁; any = any₁; model = model₁ } }
-        ≡ standardCall heads₁ bodies₁ n m rows) where
-      -- the rows after it, and what it gives
-      abbrev rows₁ : RowAreas
-      rows₁ = record { all = all₁; any = any₁; model = model₁ }
-
-      abbrev standardised : StandardOutcome
-      standardised = record { number = q₂; atoms = a; c = c; h = h; areas = rows₁ }
-
+    module _ (none : q ≡ 0) where
       -- the book, its program, and that they are in order
       book : BookRead t tables n m tables₁
       book = read-by (bookOf folded t) refl reader-is none
@@ -232,132 +227,184 @@ module _ (t : Bytes) (k : ℕ) (spellings : Bytes) (heads bodies all any spare m
       well : WellFormed p
       well = numbers (book .cs) .formed
 
-      -- what standardising gives, by the program
-      standardised-is : standardised ≡ standardOf p rows
-      standardised-is =
-          g₂ ∙ ap₂ (λ (i j : ℕ). standardCall heads₁ bodies₁ i j rows) (book .names-are) (book .rules-are)
-          ∙ ap (λ (o : Areas). standardCall (o .heads) (o .bodies) (length (namesOf (book .cs))) (length (book .cs)) rows) (book .left)
-          ∙ read-standard (book .cs) tables rows fits (long-tables old long) (long .all) (long .any) (long .model)
+      -- the tables are long enough and in order
+      pub standard-ready : StandardLong heads₁ bodies₁ rows × (formedTables heads₁ bodies₁ n m ≡ true)
+      standard-ready =
+          let l = book-long (book .cs) tables fits (long-tables old long) in
+          let as-heads : length heads₁ ≡ length (tablesOf (book .cs) tables .heads) = ap (λ (o : Areas). length (o .heads)) (book .left) in
+          let as-bodies : length bodies₁ ≡ length (tablesOf (book .cs) tables .bodies) = ap (λ (o : Areas). length (o .bodies)) (book .left) in (
+            (omega (arith, l .0, as-heads), omega (arith, l .1, as-bodies), long .all, long .any, long .model),
+            ap₂ (λ (i j : ℕ). formedTables heads₁ bodies₁ i j) (book .names-are) (book .rules-are)
+                ∙ ap (λ (o : Areas). formedTables (o .heads) (o .bodies) (length (namesOf (book .cs))) (length (book .cs))) (book .left)
+                ∙ tables-formed _ _ _ _ (book-formed (book .cs) tables fits),
+          )
 
-      -- over 256 atoms, or not
-      over : atoms < standard p .atoms → standardised ≡ standardRefusal 8 rows
-      unfolding standardOf
-      over l = standardised-is ∙ pick-true (standardRefusal 8 rows) (standardWell p rows) (lt-ltb atoms (standard p .atoms) l)
+      -- the tables are standardised, which answers q₂, a, c and h
+      module _ (q₂ a c h : ℕ) (all₁ any₁ model₁ : List ℕ)
+          (g₂ : record { number = q₂; atoms = a; c = c; h = h; areas = record { all = all₁; any = any₁; model = model₁ } }
+          ≡ standardCall heads₁ bodies₁ n m rows) where
+        -- the rows after it, and what it gives
+        abbrev rows₁ : RowAreas
+        rows₁ = record { all = all₁; any = any₁; model = model₁ }
 
-      good : standard p .atoms ≤ atoms → standardised ≡ standardWell p rows
-      unfolding standardOf
-      good l = standardised-is ∙ pick-false (standardRefusal 8 rows) (standardWell p rows) (le-ltb atoms (standard p .atoms) l)
+        abbrev standardised : StandardOutcome
+        standardised = record { number = q₂; atoms = a; c = c; h = h; areas = rows₁ }
 
-      -- refused for its atoms
-      pub call-over : (r : Answer) → r ≡ refusedAs q₂ 0 → (q₂ ≡ 0 → ⊥)
-          → gives r (areasOf tables₁ rows₁ spare listing) ≡ solveCall folded t k old
-      call-over r d some =
-          either (ltb atoms (standard p .atoms))
-          (λ x.
-          let l : atoms < standard p .atoms = ltb-true atoms (standard p .atoms) x in
-          ap (λ (x : Answer). gives x (areasOf tables₁ rows₁ spare listing)) d
-          ∙ ap₂ (λ (o : Areas) (s : StandardOutcome). gives (refusedAs (s .number) 0) (areasOf o (s .areas) spare listing)) (book .left) (over l)
-          ∙ sym (solver-is (read (book .cs)) (book .reads) ∙ solve-over-atoms (book .cs) k old l))
-          (λ x. absurd (some (ap (λ (s : StandardOutcome). s .number) (good (ltb-false atoms (standard p .atoms) x)))))
+        -- what standardising gives, by the program
+        standardised-is : standardised ≡ standardOf p rows
+        standardised-is =
+            g₂ ∙ ap₂ (λ (i j : ℕ). standardCall heads₁ bodies₁ i j rows) (book .names-are) (book .rules-are)
+            ∙ ap (λ (o : Areas). standardCall (o .heads) (o .bodies) (length (namesOf (book .cs))) (length (book .cs)) rows) (book .left)
+            ∙ read-standard (book .cs) tables rows fits (long-tables old long) (long .all) (long .any) (long .model)
 
-      -- the rows are folded, and the rounds made over them: s rounds
-      module _ (none₂ : q₂ ≡ 0) (q₃ : ℕ) (all₂ spare₁ : List ℕ)
-          (g₃ : record { number = q₃; all = all₂; spare = spare₁ } ≡ foldCall all₁ spare a k)
-          (q₄ s : ℕ) (model₂ : List ℕ)
-          (g₄ : record { number = q₄; rounds = s; model = model₂ } ≡ roundsCall all₂ any₁ model₁ a) where
-        -- at most 256 atoms
-        few : standard p .atoms ≤ atoms
-        few =
+        -- over 256 atoms, or not
+        over : atoms < standard p .atoms → standardised ≡ standardRefusal 8 rows
+        unfolding standardOf
+        over l = standardised-is ∙ pick-true (standardRefusal 8 rows) (standardWell p rows) (lt-ltb atoms (standard p .atoms) l)
+
+        good : standard p .atoms ≤ atoms → standardised ≡ standardWell p rows
+        unfolding standardOf
+        good l = standardised-is ∙ pick-false (standardRefusal 8 rows) (standardWell p rows) (le-ltb atoms (standard p .atoms) l)
+
+        -- refused for its atoms
+        pub call-over : (r : Answer) → r ≡ refusedAs q₂ 0 → (q₂ ≡ 0 → ⊥)
+            → gives r (areasOf tables₁ rows₁ spare listing) ≡ solveCall folded t k old
+        call-over r d some =
             either (ltb atoms (standard p .atoms))
-            (λ x. absurd (omega (arith, none₂, ap (λ (o : StandardOutcome). o .number) (over (ltb-true atoms (standard p .atoms) x)))))
-            (ltb-false atoms (standard p .atoms))
+            (λ x.
+            let l : atoms < standard p .atoms = ltb-true atoms (standard p .atoms) x in
+            ap (λ (x : Answer). gives x (areasOf tables₁ rows₁ spare listing)) d
+            ∙ ap₂ (λ (o : Areas) (s : StandardOutcome). gives (refusedAs (s .number) 0) (areasOf o (s .areas) spare listing)) (book .left) (over l)
+            ∙ sym (solver-is (read (book .cs)) (book .reads) ∙ solve-over-atoms (book .cs) k old l))
+            (λ x. absurd (some (ap (λ (s : StandardOutcome). s .number) (good (ltb-false atoms (standard p .atoms) x)))))
 
-        -- the rows are the program's
-        rows-are : standardised ≡ standardWell p rows
-        rows-are = good few
+        module _ (none₂ : q₂ ≡ 0) where
+          -- at most 256 atoms
+          few : standard p .atoms ≤ atoms
+          few =
+              either (ltb atoms (standard p .atoms))
+              (λ x. absurd (omega (arith, none₂, ap (λ (o : StandardOutcome). o .number) (over (ltb-true atoms (standard p .atoms) x)))))
+              (ltb-false atoms (standard p .atoms))
 
-        -- the system after k folds
-        abbrev made : System
-        made = after k (standard p)
+          -- the rows are the program's
+          rows-are : standardised ≡ standardWell p rows
+          rows-are = good few
 
-        -- what the fold and the rounds give, by the system
-        abbrev folding-made : FoldOutcome
-        folding-made = record { number = q₃; all = all₂; spare = spare₁ }
+          -- the system after k folds
+          abbrev made : System
+          made = after k (standard p)
 
-        abbrev rounds-made : RoundsOutcome
-        rounds-made = record { number = q₄; rounds = s; model = model₂ }
+          -- folding them is not refused
+          fold-call : foldCall all₁ spare a k
+              ≡ record { number = 0; all = filled rowArea (packed rowWords (standard p .atoms) (made .all)) all; spare = filled rowArea [] spare }
+          fold-call =
+              ap (λ (o : StandardOutcome). foldCall (o .areas .all) spare (o .atoms) k) rows-are
+              ∙ standard-fold p well few rows spare k (long .all) (long .spare) (in-range .2)
 
-        fold-is : folding-made
-            ≡ record { number = 0; all = filled rowArea (packed rowWords (standard p .atoms) (made .all)) all; spare = filled rowArea [] spare }
-        fold-is =
-            g₃ ∙ ap (λ (o : StandardOutcome). foldCall (o .areas .all) spare (o .atoms) k) rows-are
-            ∙ standard-fold p well few rows spare k (long .all) (long .spare) (in-range .2)
+          -- so they are long enough and in order
+          fold-taken : FoldLong all₁ spare × (k ≤ folds) × FoldFormed all₁ a
+          fold-taken = folds-rows all₁ spare a k .accepts .0 (ap (λ (o : FoldOutcome). o .number) fold-call)
 
-        run-is : rounds-made
-            ≡ record { number = 0; rounds = roundsOf made; model = withModel (below (standard p .atoms) (heldBy made)) model }
-        run-is =
-            g₄
-            ∙ ap₂ (λ (f : FoldOutcome) (o : StandardOutcome). roundsCall (f .all) (o .areas .any) (o .areas .model) (o .atoms)) fold-is rows-are
-            ∙ folded-run p well few rows k (long .all) (long .any) (long .model)
+          pub fold-ready : (a ≤ atoms) × (k ≤ folds) × (rowArea ≤ length all₁) × (rowArea ≤ length spare)
+              × (formedRows rowWords atoms a all₁ ≡ true)
+          fold-ready =
+              let l = fold-taken in
+              (l .2 .0, l .1, l .0 .0, l .0 .1, formed-make rowWords atoms a all₁ (l .2 .1))
 
-        -- the listing can be written
-        pub listing-ready : (n ≤ names) × (nameArea ≤ length spellings₁) × (rowWords ≤ length model₂) × (k ≤ folds) × (s ≤ atoms + 1)
-            × (listingBytes ≤ length listing)
-        unfolding tablesOf filledWith
-        listing-ready =
-            let ns : List Bytes = namesOf (book .cs) in
-            let few-names : length ns ≤ names = fits .names-fit in
-            let area : length spellings₁ ≡ length (filled nameArea (nameRows ns) spellings) =
-            ap (λ (o : Areas). length (o .spellings)) (book .left) in
-            let used : length (nameRows ns) ≡ length ns * nameBytes =
-            length-nameRows ns (λ a l. read-fine folded folding t (book .cs) (book .reads) a l .0) in
-            let zero : roundsCall all₂ any₁ model₁ a .number ≡ 0 = ap (λ (o : RoundsOutcome). o .number) (sym g₄ ∙ run-is) in
-            let bound : s ≤ a + 1 =
-            subst (λ (i : ℕ). i ≤ a + 1) (sym (ap (λ (o : RoundsOutcome). o .rounds) g₄)) (runs all₂ any₁ model₁ a .bound zero) in
-            let same-atoms : a ≡ standard p .atoms = ap (λ (o : StandardOutcome). o .atoms) rows-are in (
-              omega (arith, few-names, book .names-are),
-              omega (arith, area, length-filled nameArea (nameRows ns) spellings (omega (arith, used, few-names)) (long .spellings), long .spellings),
-              omega (
-                arith,
-                ap (λ (o : RoundsOutcome). length (o .model)) run-is,
-                length-model (below (standard p .atoms) (heldBy made)) model (long .model),
-                long .model,
-              ),
-              in-range .2,
-              omega (arith, bound, same-atoms, few),
-              long .listing,
-            )
+          -- the rows are folded
+          module _ (all₂ spare₁ : List ℕ) (g₃ : all₂ ≡ foldedArea k a all₁) (clear : spare₁ ≡ filled rowArea [] spare) where
+            -- what the fold leaves, by the system
+            abbrev folding-made : FoldOutcome
+            folding-made = record { number = 0; all = all₂; spare = spare₁ }
 
-        -- the model area has the names held by the rounds
-        same-held : Same (length (namesOf (book .cs))) (modelIn model₂) (heldBy made)
-        unfolding programOf
-        same-held i l =
-            let few-atoms : length (namesOf (book .cs)) ≤ standard p .atoms = names-below p in
-            ap (λ (o : RoundsOutcome). modelIn (o .model) i) run-is
-            ∙ model-below (standard p .atoms) (heldBy made) model (omega (arith, few)) i (omega (arith, l, few-atoms))
+            fold-is : folding-made
+                ≡ record { number = 0; all = filled rowArea (packed rowWords (standard p .atoms) (made .all)) all; spare = filled rowArea [] spare }
+            fold-is =
+                let l = fold-taken in
+                ap₂ (λ (x y : List ℕ). record { number = 0; all = x; spare = y }) g₃ clear
+                ∙ sym (fold-good all₁ spare a k (not-true (shortRows all₁ spare) (λ e. rows-short all₁ spare e (l .0))) (l .1) (formed-all all₁ a (l .2)))
+                ∙ fold-call
 
-        -- the name area has the names of the book
-        names-left : namesIn spellings₁ n ≡ namesOf (book .cs)
-        unfolding tablesOf filledWith
-        names-left =
-            ap₂ (λ (o : Areas) (i : ℕ). namesIn (o .spellings) i) (book .left) (book .names-are)
-            ∙ names-filled (namesOf (book .cs)) spellings (read-fine folded folding t (book .cs) (book .reads))
+            -- the rounds over them are not refused
+            run-call : roundsCall all₂ any₁ model₁ a
+                ≡ record { number = 0; rounds = roundsOf made; model = withModel (below (standard p .atoms) (heldBy made)) model }
+            run-call =
+                ap₂ (λ (f : FoldOutcome) (o : StandardOutcome). roundsCall (f .all) (o .areas .any) (o .areas .model) (o .atoms)) fold-is rows-are
+                ∙ folded-run p well few rows k (long .all) (long .any) (long .model)
 
-        -- the listing is written: solved
-        pub call-done : (held : ℕ) (listing₁ : Bytes) → held ≡ count n (modelIn model₂)
-            → listing₁ ≡ listed (namesIn spellings₁ n) (modelIn model₂) k s listing
-            → gives (record { number = 0; line = 0; names = n; atoms = a; held = held; rounds = s; c = c; h = h })
-            (record { tables = tables₁; all = all₂; any = any₁; spare = spare₁; model = model₂; listing = listing₁ })
-            ≡ solveCall folded t k old
-        unfolding answerOf solvedAreas programOf standardRows System.c System.h System.anyHead
-        call-done held listing₁ counted written =
-            let ns : List Bytes = namesOf (book .cs) in
-            let rounds-are : s ≡ roundsOf made = ap (λ (o : RoundsOutcome). o .rounds) run-is in
-            same-outcome (book .names-are) (ap (λ (o : StandardOutcome). o .atoms) rows-are)
-            (counted ∙ ap (λ (i : ℕ). count i (modelIn model₂)) (book .names-are) ∙ count-same (length ns) (modelIn model₂) (heldBy made) same-held)
-            rounds-are (ap (λ (o : StandardOutcome). o .c) rows-are) (ap (λ (o : StandardOutcome). o .h) rows-are) (book .left)
-            (ap (λ (o : FoldOutcome). o .all) fold-is) (ap (λ (o : StandardOutcome). o .areas .any) rows-are) (ap (λ (o : FoldOutcome). o .spare) fold-is)
-            (ap (λ (o : RoundsOutcome). o .model) run-is)
-            (written ∙ ap₂ (λ (xs : List Bytes) (i : ℕ). listed xs (modelIn model₂) k i listing) names-left rounds-are
-            ∙ listed-same ns (modelIn model₂) (heldBy made) k (roundsOf made) listing same-held)
-            ∙ sym (solver-is (read (book .cs)) (book .reads) ∙ solve-solved (book .cs) k old few)
+            -- so the folded rows and the start set are long enough and in order
+            pub run-ready : RoundsLong all₂ any₁ model₁ × (formedSystem all₂ any₁ model₁ a ≡ true)
+            run-ready = accepted all₂ any₁ model₁ a (ap (λ (o : RoundsOutcome). o .number) run-call)
+
+            -- the rounds are made: s rounds
+            module _ (q₄ s : ℕ) (model₂ : List ℕ)
+                (g₄ : record { number = q₄; rounds = s; model = model₂ } ≡ roundsCall all₂ any₁ model₁ a) where
+              -- what they give, by the system
+              abbrev rounds-made : RoundsOutcome
+              rounds-made = record { number = q₄; rounds = s; model = model₂ }
+
+              run-is : rounds-made
+                  ≡ record { number = 0; rounds = roundsOf made; model = withModel (below (standard p .atoms) (heldBy made)) model }
+              run-is = g₄ ∙ run-call
+
+              -- the listing can be written
+              pub listing-ready : (n ≤ names) × (nameArea ≤ length spellings₁) × (rowWords ≤ length model₂) × (k ≤ folds) × (s ≤ atoms + 1)
+                  × (listingBytes ≤ length listing)
+              unfolding tablesOf filledWith
+              listing-ready =
+                  let ns : List Bytes = namesOf (book .cs) in
+                  let few-names : length ns ≤ names = fits .names-fit in
+                  let area : length spellings₁ ≡ length (filled nameArea (nameRows ns) spellings) =
+                  ap (λ (o : Areas). length (o .spellings)) (book .left) in
+                  let used : length (nameRows ns) ≡ length ns * nameBytes =
+                  length-nameRows ns (λ a l. read-fine folded folding t (book .cs) (book .reads) a l .0) in
+                  let zero : roundsCall all₂ any₁ model₁ a .number ≡ 0 = ap (λ (o : RoundsOutcome). o .number) run-call in
+                  let bound : s ≤ a + 1 =
+                  subst (λ (i : ℕ). i ≤ a + 1) (sym (ap (λ (o : RoundsOutcome). o .rounds) g₄)) (runs all₂ any₁ model₁ a .bound zero) in
+                  let same-atoms : a ≡ standard p .atoms = ap (λ (o : StandardOutcome). o .atoms) rows-are in (
+                    omega (arith, few-names, book .names-are),
+                    omega (arith, area, length-filled nameArea (nameRows ns) spellings (omega (arith, used, few-names)) (long .spellings), long .spellings),
+                    omega (
+                      arith,
+                      ap (λ (o : RoundsOutcome). length (o .model)) run-is,
+                      length-model (below (standard p .atoms) (heldBy made)) model (long .model),
+                      long .model,
+                    ),
+                    in-range .2,
+                    omega (arith, bound, same-atoms, few),
+                    long .listing,
+                  )
+
+              -- the model area has the names held by the rounds
+              same-held : Same (length (namesOf (book .cs))) (modelIn model₂) (heldBy made)
+              unfolding programOf
+              same-held i l =
+                  let few-atoms : length (namesOf (book .cs)) ≤ standard p .atoms = names-below p in
+                  ap (λ (o : RoundsOutcome). modelIn (o .model) i) run-is
+                  ∙ model-below (standard p .atoms) (heldBy made) model (omega (arith, few)) i (omega (arith, l, few-atoms))
+
+              -- the name area has the names of the book
+              names-left : namesIn spellings₁ n ≡ namesOf (book .cs)
+              unfolding tablesOf filledWith
+              names-left =
+                  ap₂ (λ (o : Areas) (i : ℕ). namesIn (o .spellings) i) (book .left) (book .names-are)
+                  ∙ names-filled (namesOf (book .cs)) spellings (read-fine folded folding t (book .cs) (book .reads))
+
+              -- the listing is written: solved
+              pub call-done : (held : ℕ) (listing₁ : Bytes) → held ≡ count n (modelIn model₂)
+                  → listing₁ ≡ listed (namesIn spellings₁ n) (modelIn model₂) k s listing
+                  → gives (record { number = 0; line = 0; names = n; atoms = a; held = held; rounds = s; c = c; h = h })
+                  (record { tables = tables₁; all = all₂; any = any₁; spare = spare₁; model = model₂; listing = listing₁ })
+                  ≡ solveCall folded t k old
+              unfolding answerOf solvedAreas programOf standardRows System.c System.h System.anyHead
+              call-done held listing₁ counted written =
+                  let ns : List Bytes = namesOf (book .cs) in
+                  let rounds-are : s ≡ roundsOf made = ap (λ (o : RoundsOutcome). o .rounds) run-is in
+                  same-outcome (book .names-are) (ap (λ (o : StandardOutcome). o .atoms) rows-are)
+                  (counted ∙ ap (λ (i : ℕ). count i (modelIn model₂)) (book .names-are) ∙ count-same (length ns) (modelIn model₂) (heldBy made) same-held)
+                  rounds-are (ap (λ (o : StandardOutcome). o .c) rows-are) (ap (λ (o : StandardOutcome). o .h) rows-are) (book .left)
+                  (ap (λ (o : FoldOutcome). o .all) fold-is) (ap (λ (o : StandardOutcome). o .areas .any) rows-are) (ap (λ (o : FoldOutcome). o .spare) fold-is)
+                  (ap (λ (o : RoundsOutcome). o .model) run-is)
+                  (written ∙ ap₂ (λ (xs : List Bytes) (i : ℕ). listed xs (modelIn model₂) k i listing) names-left rounds-are
+                  ∙ listed-same ns (modelIn model₂) (heldBy made) k (roundsOf made) listing same-held)
+                  ∙ sym (solver-is (read (book .cs)) (book .reads) ∙ solve-solved (book .cs) k old few)

@@ -1,7 +1,10 @@
-// The public call that solves a book: from text to listing.
+// The public call that solves a book: from text to listing; and its work in areas that may be known to be clear.
 use limits::Book;
 use limits::Refusal;
 ghost use mathlib.Core.Path.{_≡_};
+ghost use mathlib.Core.Bool.{true};
+ghost use Rattle.limits.specs.Book.{rowArea};
+ghost use Rattle.rows.specs.Clear.{Clear};
 ghost use Rattle.grammar.specs.Bytes.{folded};
 ghost use Rattle.solving.specs.Solve.{solveCall};
 ghost use Rattle.solver.specs.Range.{tooShort, rangeCause};
@@ -87,8 +90,9 @@ fn refused(number: usize, line: usize) -> Answer
     }
 }
 
-// Reads the text, standardises its rules, folds the rows, makes the rounds and lists the names held.
-pub fn solve(
+// Reads the text, standardises its rules, folds the rows, makes the rounds and lists the names held. Rows that the book leaves unused are
+// not cleared where the caller knows its areas of rows to be clear (fresh).
+pub fn solve_in(
     text: &[u8],
     folds: usize,
     spellings: &mut [u8],
@@ -99,7 +103,9 @@ pub fn solve(
     spare: &mut [u64],
     model: &mut [u64],
     listing: &mut [u8],
+    fresh: bool,
 ) -> Answer
+    requires { ⌜ (fresh ≡ true → Clear rowArea (now all) × Clear rowArea (now any) × Clear rowArea (now spare)) ⌝ }
     ensures { λ r. ⌜ record {
       answer = record { number = r .number; line = r .line; names = r .names; atoms = r .atoms; held = r .held; rounds = r .rounds; c = r .c; h = r .h };
       areas = record { tables = record { spellings = now (spellings .exit); heads = now (heads .exit); bodies = now (bodies .exit) }; all = now (all .exit); any = now (any .exit); spare = now (spare .exit); model = now (model .exit); listing = now (listing .exit) };
@@ -124,7 +130,8 @@ pub fn solve(
     if read.number != 0 {
         return refused(read.number, read.line);
     }
-    let standardised = standard::standardise(
+    // A book that was read leaves tables that are in order, and their rows stay so when they are folded: no stage judges them again.
+    let standardised = standard::standardise_formed(
         heads,
         bodies,
         read.names,
@@ -132,13 +139,14 @@ pub fn solve(
         all,
         any,
         model,
+        fresh,
     );
     if standardised.number != 0 {
         return refused(standardised.number, 0);
     }
-    // Neither fold nor rounds refuses the rows that standardising left, so their numbers are not looked at.
-    unfold::fold(all, spare, standardised.atoms, folds);
-    let run = rounds::run(all, any, model, standardised.atoms);
+    unfold::fold_formed(all, spare, standardised.atoms, folds, fresh);
+    // The rounds refuse no rows that standardising left, so their number is not looked at.
+    let run = rounds::run_formed(all, any, model, standardised.atoms);
     let held = listing::write(spellings, read.names, model, folds, run.rounds, listing);
     Answer {
         number: 0,
@@ -150,4 +158,38 @@ pub fn solve(
         c: standardised.c,
         h: standardised.h,
     }
+}
+
+// The same in areas that may hold anything.
+pub fn solve(
+    text: &[u8],
+    folds: usize,
+    spellings: &mut [u8],
+    heads: &mut [u16],
+    bodies: &mut [u64],
+    all: &mut [u64],
+    any: &mut [u64],
+    spare: &mut [u64],
+    model: &mut [u64],
+    listing: &mut [u8],
+) -> Answer
+    ensures { λ r. ⌜ record {
+      answer = record { number = r .number; line = r .line; names = r .names; atoms = r .atoms; held = r .held; rounds = r .rounds; c = r .c; h = r .h };
+      areas = record { tables = record { spellings = now (spellings .exit); heads = now (heads .exit); bodies = now (bodies .exit) }; all = now (all .exit); any = now (any .exit); spare = now (spare .exit); model = now (model .exit); listing = now (listing .exit) };
+    }
+        ≡ solveCall folded (now (text .entry)) folds (record { tables = record { spellings = now (spellings .entry); heads = now (heads .entry); bodies = now (bodies .entry) }; all = now (all .entry); any = now (any .entry); spare = now (spare .entry); model = now (model .entry); listing = now (listing .entry) }) ⌝ }
+{
+    solve_in(
+        text,
+        folds,
+        spellings,
+        heads,
+        bodies,
+        all,
+        any,
+        spare,
+        model,
+        listing,
+        false,
+    )
 }

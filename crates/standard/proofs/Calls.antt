@@ -8,7 +8,7 @@ use native.Mathlib.Omega.{arith}
 use lib.Dec.{ltb}
 use lib.ListN.{length, getD, drop, replicate}
 use lib.Seq.{drop-at}
-use borrow.Author.Tests.{lt-ltb, le-ltb, ltb-false, not-true, not-false}
+use borrow.Author.Tests.{lt-ltb, le-ltb, ltb-false, not-true}
 use Rattle.limits.specs.Book.{names, rules, atoms, wordBits, rowWords, bodyWords, bodyArea, rowArea}
 use Rattle.sets.specs.Set.{Set, count, only, emptySet}
 use Rattle.sets.proofs.Logic.{or-left, or-right, or-none}
@@ -28,7 +28,7 @@ use Rattle.systems.specs.Claims.{StandardLong}
 use Rattle.systems.proofs.Packed.{length-packed}
 use Rattle.systems.proofs.Bridge.{size-in, formed-limits, formed-program}
 use Rattle.systems.proofs.Running.{length-model, model-again}
-use Rattle.systems.proofs.Standard.{standardWell, standard-short, standard-ill, standard-over, standard-good}
+use Rattle.systems.proofs.Standard.{standardWell, long-tables, standard-short, standard-ill, standard-over, standard-good}
 use Rattle.ways.specs.Ways.{severalNames}
 use Rattle.ways.proofs.Counts.{heads-below, row-atoms, row-h}
 use Rattle.placing.specs.Partial.{withRows, Ready}
@@ -104,13 +104,10 @@ same-outcome : {k k′ c c′ h h′ : ℕ} {x x′ y y′ z z′ : List ℕ} �
     (record { number = 0; atoms = k′; c = c′; h = h′; areas = record { all = x′; any = y′; model = z′ } })
 same-outcome p q r s t u = cc
 
--- `ok` is whether the tables are in order
-module _ (heads bodies : List ℕ) (n m : ℕ) (ok : Bool) (g : ok ≡ formedTables heads bodies n m) (t : not ok ≡ false) where
+-- the tables are in order
+module _ (heads bodies : List ℕ) (n m : ℕ) (formed : formedTables heads bodies n m ≡ true) where
   abbrev p : Program
   p = programIn heads bodies n m
-
-  formed : formedTables heads bodies n m ≡ true
-  formed = sym g ∙ not-false ok t
 
   -- tables in order are within the limits
   pub in-limits : (n ≤ names) × (m ≤ rules)
@@ -197,7 +194,7 @@ module _ (heads bodies : List ℕ) (n m : ℕ) (ok : Bool) (g : ok ≡ formedTab
             (as-many (λ i. emptySet) (anyRow p)) (by-atoms (λ i. emptySet) any any₁ y) v)
             (w ∙ ap (withModel (startSet p)) z ∙ model-again (startSet p) emptySet model)
 
--- `low` is whether an area is too short
+-- `low` is whether an area is too short, `ok` whether the tables are in order
 module _ (heads bodies : List ℕ) (n m : ℕ) (all any model : List ℕ) (low : Bool)
     (e : low ≡ tooShort (length heads) (length bodies) (length all) (length any) (length model)) where
   abbrev o′ : RowAreas
@@ -216,29 +213,34 @@ module _ (heads bodies : List ℕ) (n m : ℕ) (all any model : List ℕ) (low :
     pub call-ill : not ok ≡ true → standardRefusal 10 o′ ≡ standardCall heads bodies n m o′
     call-ill t = sym (standard-ill heads bodies n m o′ (sym short-is ∙ f) (sym g ∙ not-true ok t))
 
-    module _ (t : not ok ≡ false) (marked : List ℕ) (s : marked ≡ pack bodyWords (severalNames heads m)) (helpers : ℕ)
-        (q : helpers ≡ count m (λ j. row (part 0 bodyWords marked) (getD heads j 0))) where
-      -- over 256 atoms: 8
-      pub call-over : atoms < n + helpers → standardRefusal 8 o′ ≡ standardCall heads bodies n m o′
-      call-over l =
-          sym
-          (standard-over heads bodies n m o′ (sym short-is ∙ f) (formed heads bodies n m ok g t)
-          (subst (λ (k : ℕ). atoms < k) (atoms-are heads bodies n m ok g t marked s helpers q) l))
+-- the areas are long enough and the tables in order; the names with several rules are marked, and `helpers` rules are theirs
+module _ (heads bodies : List ℕ) (n m : ℕ) (all any model : List ℕ) (long : StandardLong heads bodies (record { all = all; any = any; model = model }))
+    (formed : formedTables heads bodies n m ≡ true) (marked : List ℕ) (s : marked ≡ pack bodyWords (severalNames heads m)) (helpers : ℕ)
+    (q : helpers ≡ count m (λ j. row (part 0 bodyWords marked) (getD heads j 0))) where
+  abbrev o″ : RowAreas
+  o″ = record { all = all; any = any; model = model }
 
-      -- the rows: 0
-      pub call-done : (l : n + helpers ≤ atoms) (all₁ any₁ model₁ : List ℕ)
-          → all₁ ≡ filled rowArea (packed rowWords (n + helpers) only) all
-          → any₁ ≡ filled rowArea (packed rowWords (n + helpers) (λ i. emptySet)) any
-          → model₁ ≡ withModel emptySet model
-          → (c h : ℕ) (all₂ any₂ model₂ : List ℕ) → c ≡ count m (hasBody (programIn heads bodies n m))
-          → all₂ ≡ withRows (programIn heads bodies n m) (allRow (programIn heads bodies n m)) all₁
-          → any₂ ≡ withRows (programIn heads bodies n m) (anyRow (programIn heads bodies n m)) any₁
-          → model₂ ≡ withModel (startSet (programIn heads bodies n m)) model₁
-          → h ≡ count (bodyWords * wordBits) (row (part 0 bodyWords marked))
-          → record { number = 0; atoms = n + helpers; c = c; h = h; areas = record { all = all₂; any = any₂; model = model₂ } }
-          ≡ standardCall heads bodies n m o′
-      call-done l all₁ any₁ model₁ x y z c h all₂ any₂ model₂ counted u v w many =
-          rows-well heads bodies n m ok g t marked s helpers q l all any model all₁ any₁ model₁ x y z c h all₂ any₂ model₂ counted u v w many
-          ∙ sym
-          (standard-good heads bodies n m o′ (sym short-is ∙ f) (formed heads bodies n m ok g t)
-          (few heads bodies n m ok g t marked s helpers q l))
+  -- over 256 atoms: 8
+  pub call-over : atoms < n + helpers → standardRefusal 8 o″ ≡ standardCall heads bodies n m o″
+  call-over l =
+      sym
+      (standard-over heads bodies n m o″ (long-tables heads bodies o″ long) formed
+      (subst (λ (k : ℕ). atoms < k) (atoms-are heads bodies n m formed marked s helpers q) l))
+
+  -- the rows: 0
+  pub call-done : (l : n + helpers ≤ atoms) (all₁ any₁ model₁ : List ℕ)
+      → all₁ ≡ filled rowArea (packed rowWords (n + helpers) only) all
+      → any₁ ≡ filled rowArea (packed rowWords (n + helpers) (λ i. emptySet)) any
+      → model₁ ≡ withModel emptySet model
+      → (c h : ℕ) (all₂ any₂ model₂ : List ℕ) → c ≡ count m (hasBody (programIn heads bodies n m))
+      → all₂ ≡ withRows (programIn heads bodies n m) (allRow (programIn heads bodies n m)) all₁
+      → any₂ ≡ withRows (programIn heads bodies n m) (anyRow (programIn heads bodies n m)) any₁
+      → model₂ ≡ withModel (startSet (programIn heads bodies n m)) model₁
+      → h ≡ count (bodyWords * wordBits) (row (part 0 bodyWords marked))
+      → record { number = 0; atoms = n + helpers; c = c; h = h; areas = record { all = all₂; any = any₂; model = model₂ } }
+      ≡ standardCall heads bodies n m o″
+  call-done l all₁ any₁ model₁ x y z c h all₂ any₂ model₂ counted u v w many =
+      rows-well heads bodies n m formed marked s helpers q l all any model all₁ any₁ model₁ x y z c h all₂ any₂ model₂ counted u v w many
+      ∙ sym
+      (standard-good heads bodies n m o″ (long-tables heads bodies o″ long) formed
+      (few heads bodies n m formed marked s helpers q l))

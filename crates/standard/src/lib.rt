@@ -1,8 +1,12 @@
-// The public call that standardises tables.
+// The public call that standardises tables, and its work without the tests.
 use limits::Book;
 use limits::Refusal;
 ghost use mathlib.Core.Path.{_≡_};
-ghost use Rattle.systems.specs.Standardise.{standardCall};
+ghost use mathlib.Core.Bool.{true};
+ghost use Rattle.limits.specs.Book.{rowArea};
+ghost use Rattle.rows.specs.Clear.{Clear};
+ghost use Rattle.systems.specs.Standardise.{formedTables, standardCall};
+ghost use Rattle.systems.specs.Claims.{StandardLong};
 ghost use Rattle.standard.specs.Short.{tooShort};
 
 // The number of a refusal, 0 for none; then the atoms, c and h.
@@ -32,7 +36,46 @@ fn too_short(heads: usize, bodies: usize, all: usize, any: usize, model: usize) 
     model < Book::ROW_WORDS
 }
 
-// Leaves the rows of the n names and m rules, zero past them, and the start set in the model area; a refusal leaves all as it was.
+// Leaves the rows of the n names and m rules, zero past them, and the start set in the model area; too many atoms leave all as it was. For a
+// caller that knows its tables to be in order, as after reading: they are not judged again. Nor are unused rows cleared that it knows to be
+// clear (fresh).
+pub fn standardise_formed(
+    heads: &[u16],
+    bodies: &[u64],
+    n: usize,
+    m: usize,
+    all: &mut [u64],
+    any: &mut [u64],
+    model: &mut [u64],
+    fresh: bool,
+) -> Answer
+    requires { ⌜ StandardLong (now heads) (now bodies) (record { all = now all; any = now any; model = now model }) × (formedTables (now heads) (now bodies) n m ≡ true) ⌝ }
+    requires { ⌜ (fresh ≡ true → Clear rowArea (now all) × Clear rowArea (now any)) ⌝ }
+    ensures { λ r. ⌜ record { number = r .number; atoms = r .atoms; c = r .c; h = r .h; areas = record { all = now (all .exit); any = now (any .exit); model = now (model .exit) } }
+        ≡ standardCall (now (heads .entry)) (now (bodies .entry)) n m (record { all = now (all .entry); any = now (any .entry); model = now (model .entry) }) ⌝ }
+{
+    let several = ways::several(heads, m);
+    let atoms = n + ways::helpers(heads, m, &several);
+    if Book::ATOMS < atoms {
+        return Answer {
+            number: Refusal::ATOMS,
+            atoms: 0,
+            c: 0,
+            h: 0,
+        };
+    }
+    placing::begin(atoms, all, any, model, fresh);
+    let c = placing::fill(heads, bodies, &several, n, m, all, any, model);
+    let h = rows::read::count(&several, 0, Book::BODY_WORDS);
+    Answer {
+        number: 0,
+        atoms,
+        c,
+        h,
+    }
+}
+
+// Judges the tables, then standardises them; a refusal leaves all as it was.
 pub fn standardise(
     heads: &[u16],
     bodies: &[u64],
@@ -61,23 +104,5 @@ pub fn standardise(
             h: 0,
         };
     }
-    let several = ways::several(heads, m);
-    let atoms = n + ways::helpers(heads, m, &several);
-    if Book::ATOMS < atoms {
-        return Answer {
-            number: Refusal::ATOMS,
-            atoms: 0,
-            c: 0,
-            h: 0,
-        };
-    }
-    placing::begin(atoms, all, any, model);
-    let c = placing::fill(heads, bodies, &several, n, m, all, any, model);
-    let h = rows::read::count(&several, 0, Book::BODY_WORDS);
-    Answer {
-        number: 0,
-        atoms,
-        c,
-        h,
-    }
+    standardise_formed(heads, bodies, n, m, all, any, model, false)
 }

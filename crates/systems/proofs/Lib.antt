@@ -1,4 +1,5 @@
 pub mod Packed
+pub mod Clearing
 pub mod Bridge
 pub mod Formed
 pub mod Folds

@@ -193,7 +193,7 @@ module _ (all any model : List ℕ) where
     ltb-false (length model) rowWords (not-true shortModel (λ t. clash (or-right shortAll (or-right shortAny t)) e)),
   )
 
-  long-make : RoundsLong all any model → shortSystem all any model ≡ false
+  pub long-make : RoundsLong all any model → shortSystem all any model ≡ false
   unfolding shortSystem
   long-make h = rw (le-ltb (length all) rowArea (h .0), le-ltb (length any) rowArea (h .1), le-ltb (length model) rowWords (h .2))
 
@@ -219,7 +219,7 @@ module _ (all any model : List ℕ) where
           ends-at m (modelIn model) (ends-within m (rowWords * wordBits) (modelIn model) (part-past 0 rowWords model) b),
         )
 
-    order-make : RoundsFormed all any model m → formedSystem all any model m ≡ true
+    pub order-make : RoundsFormed all any model m → formedSystem all any model m ≡ true
     unfolding formedSystem
     order-make h =
         and-make (le-leb m atoms (h .0))

@@ -6,25 +6,26 @@ use mathlib.Core.Bool.{true}
 use Prim.Native.Nat.{ℕ, suc, _+_, _-_, _*_, _≤_, _<_}
 use native.Mathlib.Nat.{le-trans}
 use native.Mathlib.Omega.{arith}
-use lib.ListN.{length, take, drop, replicate}
+use lib.ListN.{length, take, drop, replicate, length-replicate}
 use Rattle.limits.specs.Book.{wordBits, rowWords}
 use Rattle.sets.specs.Set.{Set}
 use Rattle.sets.proofs.Logic.{iff}
 use Rattle.words.specs.Row.{part, put}
-use Rattle.rows.specs.Clear.{cleared}
+use Rattle.rows.specs.Clear.{cleared, Clear}
 use Rattle.rows.proofs.Reading.{Known, in-range}
 use Rattle.program.specs.System.{unfoldOnce, unfolded}
 use Rattle.tables.specs.Areas.{filled}
 use Rattle.tables.specs.Begun.{begun}
-use Rattle.tables.proofs.Encoding.{filled-is, drop-begun, used}
+use Rattle.tables.proofs.Encoding.{drop-begun, used}
 use Rattle.systems.specs.Rows.{rowIn, packed, formedRows}
 use Rattle.systems.specs.Fold.{foldedArea}
-use Rattle.systems.proofs.Packed.{length-packed, packed-same, row-begun, begun-rows, begun-begun, put-front}
+use Rattle.systems.proofs.Packed.{length-packed, packed-same, row-begun, begun-rows, begun-begun, put-front, zeros-front}
+use Rattle.systems.proofs.Clearing.{tail-cleared, tail-clear, front-cleared, filled-zeros}
 use Rattle.systems.proofs.Formed.{formed-at, unfold-find, unfold-make, unfolded-in}
 
--- what lies past a size that holds the rows put in is as it was
-pub rows-past : (w : ℕ) (rows : ℕ → Set) (old to : List ℕ) (m size : ℕ) → to ≡ begun (packed w m rows) old → m * w ≤ size → drop size to ≡ drop size old
-rows-past w rows old to m size e l = ap (drop size) e ∙ drop-begun size (packed w m rows) old (omega (arith, length-packed w m rows))
+-- what lies past the rows put in is as it was
+pub rows-past : (w : ℕ) (rows : ℕ → Set) (old to : List ℕ) (m : ℕ) → to ≡ begun (packed w m rows) old → drop (m * w) to ≡ drop (m * w) old
+rows-past w rows old to m e = ap (drop (m * w)) e ∙ drop-begun (m * w) (packed w m rows) old (omega (arith, length-packed w m rows))
 
 -- Folds one after another.
 
@@ -100,7 +101,20 @@ pub folds-end : (d k m : ℕ) (all now : List ℕ) → now ≡ foldedRows rowWor
 unfolding foldedArea
 folds-end d k m all now e q = e ∙ ap (λ (x : ℕ). foldedRows rowWords x m all) q
 
--- cleared to the stated size, where what lies past that is as it was
-pub spare-zero : (size : ℕ) (old spare new : List ℕ) → drop size spare ≡ drop size old → new ≡ cleared 0 size spare → new ≡ filled size [] old
-spare-zero size old spare new e f =
-    f ∙ ap (λ (xs : List ℕ). replicate (size - 0) 0 ++ xs) e ∙ sym (filled-is size [] old)
+-- the spare cleared, over the words of the rows and then past them, where it is as it was
+module _ (size v u : ℕ) (old spare mid : List ℕ) (k : u ≡ v) (l : v ≤ size) (e : drop v spare ≡ drop v old) (p : mid ≡ cleared 0 u spare) where
+  width : length (replicate {A = ℕ} u 0) ≡ u
+  width = length-replicate u 0
+
+  zeros : mid ≡ begun (replicate u 0) old
+  zeros =
+      front-cleared u spare mid p ∙ sym (zeros-front u spare)
+      ∙ ap (λ (xs : List ℕ). replicate u 0 ++ xs) (ap (λ (n : ℕ). drop n spare) k ∙ e ∙ ap (λ (n : ℕ). drop n old) (sym k)) ∙ zeros-front u old
+
+  -- it is zero
+  pub spare-zero : (new : List ℕ) → new ≡ cleared u size mid → new ≡ filled size [] old
+  spare-zero new q = tail-cleared size u (replicate u 0) old mid (sym width) (omega (arith, width)) zeros new q ∙ filled-zeros size u old (omega arith)
+
+  -- and was so past the rows, where it was clear before
+  pub spare-clear : Clear size old → cleared u size mid ≡ mid
+  spare-clear = tail-clear size u (replicate u 0) old mid (sym width) (omega (arith, width)) zeros

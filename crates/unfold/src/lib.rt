@@ -1,6 +1,7 @@
-// The public call that folds rows: each fold from the rows before it, by turns into the spare and back.
+// The public call that folds rows, each fold from the rows before it, by turns into the spare and back; and its work without the tests.
 use limits::Book;
 use limits::Refusal;
+use rows::clear::clear_stale64;
 use rows::clear::clear_tail64;
 use rows::write::copy;
 use rows::write::unite;
@@ -11,6 +12,7 @@ ghost use Prim.Native.Nat.{_+_, _*_, _<_, _≤_};
 ghost use lib.ListN.{length};
 ghost use Rattle.limits.specs.Book.{atoms, folds, wordBits, rowWords, rowArea};
 ghost use Rattle.sets.specs.Set.{exists, union};
+ghost use Rattle.rows.specs.Clear.{Clear};
 ghost use Rattle.words.specs.Row.{bit, row, pack, put};
 ghost use Rattle.program.specs.System.{unfoldOnce};
 ghost use Rattle.tables.specs.Areas.{filled};
@@ -58,9 +60,11 @@ fn fold_rows(from: &[u64], to: &mut [u64], m: usize)
     }
 }
 
-// k folds of the first m rows; no row is copied but after an odd number of them. Afterwards the spare is zero.
-fn fold_times(all: &mut [u64], spare: &mut [u64], m: usize, k: usize)
-    requires { ⌜ (m ≤ atoms) × (k ≤ folds) × (rowArea ≤ length (now all)) × (rowArea ≤ length (now spare)) × (formedRows rowWords atoms m (now all) ≡ true) ⌝ }
+// k folds of the first m rows; no row is copied but after an odd number of them. Afterwards the spare is zero. For a caller that knows
+// its rows to be in order, as after standardising: they are not judged again. Nor is a spare cleared past them that it knows to be clear
+// (fresh).
+pub fn fold_formed(all: &mut [u64], spare: &mut [u64], m: usize, k: usize, fresh: bool)
+    requires { ⌜ (m ≤ atoms) × (k ≤ folds) × (rowArea ≤ length (now all)) × (rowArea ≤ length (now spare)) × (formedRows rowWords atoms m (now all) ≡ true) × (fresh ≡ true → Clear rowArea (now spare)) ⌝ }
     ensures all { λ r. ⌜ now (all .exit) ≡ foldedArea k m (now (all .entry)) ⌝ }
     ensures spare { λ r. ⌜ now (spare .exit) ≡ filled rowArea [] (now (spare .entry)) ⌝ }
 {
@@ -74,10 +78,12 @@ fn fold_times(all: &mut [u64], spare: &mut [u64], m: usize, k: usize)
         fold_rows(all, spare, m);
         copy(all, 0, spare, 0, Book::row_at(m));
     }
-    clear_tail64(spare, 0, Book::ROW_AREA);
+    let unused = Book::row_at(m);
+    clear_tail64(spare, 0, unused);
+    clear_stale64(spare, unused, Book::ROW_AREA, fresh);
 }
 
-// Makes k folds of the rows of m atoms, and clears the spare; returns 0, or the number of a refusal, which leaves all as it was.
+// Judges the rows of m atoms, makes k folds of them, and clears the spare; returns 0, or the number of a refusal, which leaves all as it was.
 pub fn fold(all: &mut [u64], spare: &mut [u64], m: usize, k: usize) -> usize
     ensures { λ r. ⌜ record { number = r; all = now (all .exit); spare = now (spare .exit) } ≡ foldCall (now (all .entry)) (now (spare .entry)) m k ⌝ }
 {
@@ -90,6 +96,6 @@ pub fn fold(all: &mut [u64], spare: &mut [u64], m: usize, k: usize) -> usize
     if !rowcheck::formed(all, m) {
         return Refusal::ILL_FORMED;
     }
-    fold_times(all, spare, m, k);
+    fold_formed(all, spare, m, k, false);
     0
 }

@@ -1,6 +1,8 @@
 -- `unfold::fold` meets its contract. One law for each outcome. Assumes nothing.
+use mathlib.Core.Path.{refl}
 use mathlib.Core.Logic.{inl, inr, ⊎-elim}
 use borrow.Author.Tests.{ltb-true, ltb-false}
+use Rattle.sets.proofs.Logic.{clash}
 use Rattle.rowcheck.proofs.Counted.{passed}
 use Rattle.unfold.proofs.Outcomes.{call-short, call-over, call-ill, call-done}
 use borrow.Author.Needs.{needs}
@@ -25,11 +27,11 @@ returns-3 c =
     call-ill (a .all .now) (a .spare .now) _ _ (e .before .if1 .left) (ltb-false _ _ (e .if2 .left)) (f .if3 .left) _
     (c .before .formed .ensures) (c .if4 .taken)
 
-fold-times-requires : tie.Need-fold-times-requires
-fold-times-requires c κs =
+fold-formed-requires : tie.Need-fold-formed-requires
+fold-formed-requires c κs =
     let g = c .before .before .before in
     let k = passed _ _ _ (g .formed .ensures) (c .before .before .if4 .left) in
-    (k .0, search needs, search needs, search needs, k .1)
+    (k .0, search needs, search needs, search needs, k .1, λ t. clash t refl)
 
 returns-4 : tie.Need-returns-4
 returns-4 c =
@@ -39,7 +41,7 @@ returns-4 c =
     let e = f .before in
     let a = e .before .before .before .before .args in
     call-done (a .all .now) (a .spare .now) _ _ (e .before .if1 .left) (ltb-false _ _ (e .if2 .left)) (f .if3 .left) _
-    (i .before .formed .ensures) _ _ (i .if4 .left) (t .fold-times .ensures .0) (t .fold-times .ensures .1)
+    (i .before .formed .ensures) _ _ (i .if4 .left) (t .fold-formed .ensures .0) (t .fold-formed .ensures .1)
 
 pub fold-spec : {M : Type 1} → statement M
 fold-spec =
@@ -50,7 +52,7 @@ fold-spec =
     (λ c κs. search needs)
     (λ c. search needs)
     returns-3
-    fold-times-requires
+    fold-formed-requires
     (λ c. search needs)
     (λ c. search needs)
     returns-4)
