@@ -1,0 +1,128 @@
+-- The range of a refusal's number and line, so that both are read back from the one number that C gets.
+-- Assumes nothing.
+use mathlib.Core.Path.{_≡_, refl, sym, ap, subst}
+use mathlib.Core.Logic.{_⊎_, inl, inr, ⊎-elim}
+use mathlib.Core.List.{List, [], _∷_, _++_}
+use Prim.Native.Nat.{ℕ, _+_, _-_, _*_, _/_, _%_, _^_, _≤_, _<_}
+use native.Mathlib.Omega.{arith}
+use lib.Arith.{digits-div, digits-mod}
+use lib.Dec.{ltb}
+use lib.ListN.{length, length-append}
+use borrow.Author.Tests.{ltb-true, ltb-false}
+use Rattle.limits.specs.Book.{textBytes, atoms, folds}
+use Rattle.sets.proofs.Logic.{either}
+use Rattle.program.specs.Standard.{standard}
+use Rattle.grammar.specs.Bytes.{Bytes, Folding, lineEnd, colon, blank}
+use Rattle.grammar.specs.Grammar.{Clause, RuleLine, Says, mark, joined}
+use Rattle.grammar.proofs.Spans.{all-nil}
+use Rattle.tables.specs.Numbering.{programOf}
+use Rattle.tables.specs.Reading.{Reading, read, refused, bookOf, Barred, Refusal}
+use Rattle.tables.proofs.Theorems.{judged}
+use Rattle.solving.specs.Solve.{SolveAreas, SolveOutcome, shortAreas, answerOf, solveRead, solveCall}
+use Rattle.solving.specs.SolveClaims.{highestRefusal}
+use Rattle.solving.proofs.Judging.{solve-short, solve-long-text, solve-over-folds, solve-in-range}
+use Rattle.solving.proofs.Judging.{solve-refused, solve-over-atoms, solve-solved, solve-judges}
+use Rattle.hosting.specs.List.{ListOutcome, ownAreas, listCall}
+use Rattle.hosting.specs.Call.{refusalUnit, asOne}
+use Rattle.hosting.specs.Claims.{highestLine}
+
+-- lines up to one: each before it takes a byte at least, its end
+joined-here : (ls : List Bytes) (s : Bytes) (rest : List Bytes) → length ls + (length s + 1) ≤ length (joined (ls ++ (s ∷ rest)))
+unfolding joined
+joined-here [] s rest = omega (arith, length-append s (lineEnd ∷ joined rest))
+joined-here (x ∷ ls) s rest = omega (arith, length-append x (lineEnd ∷ joined (ls ++ (s ∷ rest))), joined-here ls s rest)
+
+-- a line that is refused has a byte of its own
+barred-some : (fold : ℕ → ℕ) (cs : List Clause) (s : Bytes) (q : ℕ) → Barred fold cs s q → 1 ≤ length s
+unfolding Barred Says
+barred-some fold cs [] q (inl x) = absurd (x .1 .0 (all-nil blank))
+barred-some fold cs (b ∷ s) q (inl x) = omega arith
+barred-some fold cs s q (inr x) =
+    let w : RuleLine fold s (x .1 .0) (x .1 .1) = x .1 .2 in
+    let h : Bytes = x .1 .0 in
+    let end : Bytes = colon ∷ w .rest in
+    omega (
+      arith,
+      ap length (w .shape),
+      length-append (w .front) (h ++ (w .gap ++ end)),
+      length-append h (w .gap ++ end),
+      length-append (w .gap) end,
+    )
+
+-- so a line's number is less than the text is long by the bytes of the mark at least
+refused-line : (fold : ℕ → ℕ) (t : Bytes) (q line : ℕ) → Refusal fold t q line → line ≤ length t - length mark
+unfolding Refusal
+refused-line fold t q line (inl x) = omega (arith, x .1)
+refused-line fold t q line (inr (inl x)) = omega (arith, x .1)
+refused-line fold t q line (inr (inr x)) =
+    let ls : List Bytes = x .above ++ (x .here ∷ x .below) in
+    omega (
+      arith,
+      x .number,
+      ap length (x .text .shape),
+      length-append mark (joined ls),
+      joined-here (x .above) (x .here) (x .below),
+      barred-some fold (x .cs) (x .here) q (x .barred),
+    )
+
+module _ (fold : ℕ → ℕ) (folding : Folding fold) (t : Bytes) (k : ℕ) (old : SolveAreas) where
+  -- no line, or that of a refusal of a text within the limit
+  abbrev Lined : SolveOutcome → Type 0
+  Lined r = (r .answer .line ≡ 0) ⊎ ((length t ≤ textBytes) × Refusal fold t (r .answer .number) (r .answer .line))
+
+  -- by what a text within the limit comes to
+  read-lined : length t ≤ textBytes → (x : Reading) → bookOf fold t ≡ x → Lined (solveRead x k old)
+  unfolding answerOf
+  read-lined fits (refused q line) e = subst Lined (sym (solve-refused q line k old)) (inr (fits, judged fold folding .refuses t q line .0 e))
+  read-lined fits (read cs) e =
+      let m : ℕ = standard (programOf cs) .atoms in
+      either (ltb atoms m)
+      (λ u. subst Lined (sym (solve-over-atoms cs k old (ltb-true atoms m u))) (inl refl))
+      (λ u. subst Lined (sym (solve-solved cs k old (ltb-false atoms m u))) (inl refl))
+
+  -- the solver's line
+  pub solve-lined : Lined (solveCall fold t k old)
+  solve-lined =
+      either (shortAreas old)
+      (λ s. subst Lined (sym (solve-short fold t k old s)) (inl refl))
+      (λ s.
+      either (ltb textBytes (length t))
+      (λ l. subst Lined (sym (solve-long-text fold t k old s (ltb-true textBytes (length t) l))) (inl refl))
+      (λ l.
+      let fits : length t ≤ textBytes = ltb-false textBytes (length t) l in
+      either (ltb folds k)
+      (λ f. subst Lined (sym (solve-over-folds fold t k old s fits (ltb-true folds k f))) (inl refl))
+      (λ f. subst Lined (sym (solve-in-range fold t k old s fits (ltb-false folds k f))) (read-lined fits (bookOf fold t) refl))))
+
+-- a number of at most 9, a line of at most 16,375
+abbrev pub Ranged : ℕ → ℕ → Type 0
+Ranged number line = (number ≤ highestRefusal) × (line ≤ highestLine)
+
+-- a book listed
+pub list-range : (fold : ℕ → ℕ) → Folding fold → (t : Bytes) (k : ℕ) (listing : Bytes)
+    → Ranged (listCall fold t k listing .number) (listCall fold t k listing .line)
+unfolding listCall
+list-range fold folding t k listing =
+    let line : ℕ = solveCall fold t k (ownAreas listing) .answer .line in (
+      solve-judges fold folding t k (ownAreas listing) .no-other,
+      ⊎-elim (λ (z : line ≡ 0). omega arith) (λ p. omega (arith, p .0, refused-line fold t _ _ (p .1))) (solve-lined fold folding t k (ownAreas listing)),
+    )
+
+-- what is listed as r says, as one number: products and sums that a machine number holds
+module _ (fold : ℕ → ℕ) (folding : Folding fold) (t : Bytes) (k : ℕ) (listing : Bytes) (r : ListOutcome) (e : r ≡ listCall fold t k listing) where
+  -- number and line
+  pub ranges : Ranged (r .number) (r .line)
+  ranges = subst (λ (x : ListOutcome). Ranged (x .number) (x .line)) (sym e) (list-range fold folding t k listing)
+
+  pub unit-fits : r .number * refusalUnit < 2 ^ 64
+  unit-fits = omega (arith, ranges .0)
+
+  pub one-fits : asOne (r .number) (r .line) < 2 ^ 64
+  one-fits = omega (arith, ranges .0, ranges .1)
+
+-- a line below 65,536 and the number are read back
+pub number-back : (number line : ℕ) → line < refusalUnit → asOne number line / refusalUnit ≡ number
+number-back number line l = digits-div number l
+
+pub line-back : (number line : ℕ) → line < refusalUnit → asOne number line % refusalUnit ≡ line
+line-back number line l = digits-mod number l

@@ -1,0 +1,4 @@
+pub mod List
+pub mod Call
+pub mod Print
+pub mod Claims

@@ -1,0 +1,57 @@
+// A book listed in areas of its own, and what the lister prints of it.
+use limits::Book;
+ghost use mathlib.Core.Path.{_≡_};
+ghost use Rattle.grammar.specs.Bytes.{folded};
+ghost use Rattle.hosting.specs.List.{listCall};
+ghost use Rattle.hosting.specs.Print.{printCall};
+
+pub mod parts;
+
+// The number of a refusal with its line, 0 for none.
+pub struct Verdict {
+    pub number: usize,
+    pub line: usize,
+}
+
+// Solves the book in areas on its own stack; only the listing area is lent.
+pub fn list(text: &[u8], folds: usize, listing: &mut [u8]) -> Verdict
+    ensures { λ r. ⌜ record { number = r .number; line = r .line; listing = now (listing .exit) } ≡ listCall folded (now (text .entry)) folds (now (listing .entry)) ⌝ }
+{
+    let mut spellings = [0u8; Book::NAME_AREA];
+    let mut heads = [0u16; Book::RULES];
+    let mut bodies = [0u64; Book::BODY_AREA];
+    let mut all = [0u64; Book::ROW_AREA];
+    let mut any = [0u64; Book::ROW_AREA];
+    let mut spare = [0u64; Book::ROW_AREA];
+    let mut model = [0u64; Book::ROW_WORDS];
+    let r = solver::solve_in(
+        text,
+        folds,
+        &mut spellings,
+        &mut heads,
+        &mut bodies,
+        &mut all,
+        &mut any,
+        &mut spare,
+        &mut model,
+        listing,
+        true,
+    );
+    Verdict {
+        number: r.number,
+        line: r.line,
+    }
+}
+
+// Lays out what the lister prints of a book, its listing after 8 folds or the line of its refusal, and returns how many bytes that is.
+pub fn print(text: &[u8], out: &mut [u8; Book::LISTING_BYTES]) -> usize
+    ensures { λ r. ⌜ record { count = r; area = now (out .exit) } ≡ printCall folded (now (text .entry)) ⌝ }
+{
+    let r = list(text, Book::FOLDS, out);
+    if r.number == 0 {
+        return parts::text_len(out);
+    }
+    let end = parts::put_refusal(r.number, r.line, out);
+    rows::clear::clear_tail8(out, end, Book::LISTING_BYTES);
+    end
+}
