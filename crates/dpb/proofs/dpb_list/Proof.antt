@@ -1,0 +1,21 @@
+-- `dpb::dpb_list` meets its contract: the number and the line as one. Assumes nothing.
+use native.Mathlib.Omega.{arith}
+use Rattle.grammar.specs.Bytes.{folded}
+use Rattle.grammar.proofs.Folding.{folding}
+use Rattle.hosting.proofs.Calls.{list-called}
+use Rattle.hosting.proofs.Range.{unit-fits, one-fits}
+use borrow.Author.Needs.{needs}
+use Rattle.dpb.proofs.dpb_list.Statement.{statement}
+use Rattle.dpb.proofs.dpb_list.Tie as tie
+
+mul-result : tie.Need-mul-result
+mul-result c = omega (arith, unit-fits folded folding _ _ _ _ (c .before .before .list .ensures))
+
+add-result : tie.Need-add-result
+add-result c = omega (arith, one-fits folded folding _ _ _ _ (c .before .before .list .ensures))
+
+returns : tie.Need-returns
+returns c = list-called folded _ _ _ _ (c .before .before .list .ensures)
+
+pub dpb-list-spec : {M : Type 1} → statement M
+dpb-list-spec = tie.close (tie.spec (λ c κs. search needs) mul-result add-result (λ c. search needs) returns)
