@@ -1,0 +1,110 @@
+//! How often each number came back, each limit was met from each side and names began each other, over the random books.
+
+use crate::engine::{form, name_byte, Book, Judged, Refusal, ATOMS, FOLDS, LISTING, NAME, NAMES, RULES, TEXT};
+use crate::harness::Lent;
+
+const LIMITS: [(&str, usize); 7] = [
+    ("text bytes", TEXT),
+    ("names", NAMES),
+    ("rules", RULES),
+    ("atoms", ATOMS),
+    ("folds", FOLDS as usize),
+    ("name bytes", NAME),
+    ("listing area", LISTING - 1),
+];
+
+#[derive(Default)]
+pub struct Tally {
+    numbers: [u64; 10],
+    within: [u64; 7],
+    past: [u64; 7],
+    rounds: [usize; 9],
+    most_rounds: usize,
+    accepted: u64,
+    moved: u64,
+    begun: u64,
+}
+
+impl Tally {
+    /// Counts one call in which the engines agreed. Within a limit counts what the call let pass at just that limit (for 256 rules
+    /// that is the reader: the atoms are then always too many); past it counts what was refused for being just one more.
+    pub fn count(&mut self, text: &[u8], judged: &Judged, lent: Lent, heard: Result<(), Refusal>) {
+        let number = heard.map_or_else(|refusal| refusal.number, |()| 0);
+        self.numbers[number as usize] += 1;
+        let longest = |book: &Book| book.names.iter().map(Vec::len).max().unwrap_or(0);
+        let figures = |book: &Book| (book.names.len(), book.rules.len(), longest(book));
+        let (names, rules, longest) = judged.read.as_ref().map_or((0, 0, 0), figures);
+        let sides = [
+            (number == 0 && text.len() == TEXT, number == 2 && text.len() == TEXT + 1),
+            (number == 0 && names == NAMES, number == 6),
+            (number == 8 && rules == RULES, number == 7),
+            (number == 0 && judged.atoms == ATOMS, number == 8 && judged.atoms == ATOMS + 1),
+            (number == 0 && lent.folds == FOLDS, number == 9 && lent.folds == FOLDS + 1),
+            (number == 0 && longest == NAME, number == 5 && heard.map_or_else(|refusal| one_byte_too_long(text, refusal), |()| false)),
+            (number == 1 && lent.area == LISTING - 1, number == 0 && lent.area == LISTING),
+        ];
+        if number == 0 && lent.folds == FOLDS {
+            self.begun += u64::from(judged.read.as_ref().map_or(false, |book| one_begins_another(&book.names)));
+        }
+        for (limit, (within, past)) in sides.into_iter().enumerate() {
+            self.within[limit] += u64::from(within);
+            self.past[limit] += u64::from(past);
+        }
+    }
+
+    /// Takes note of the rounds in a listing's head line.
+    pub fn count_rounds(&mut self, folds: u64, listing: &[u8]) {
+        let head = String::from_utf8_lossy(listing);
+        let rounds = head.lines().next().and_then(|line| line.rsplit('=').next()).and_then(|rounds| rounds.parse().ok());
+        self.rounds[folds as usize] = rounds.unwrap_or(0);
+        self.most_rounds = self.most_rounds.max(self.rounds[folds as usize]);
+        if folds == FOLDS {
+            self.accepted += 1;
+            self.moved += u64::from(self.rounds[0] != self.rounds[8]);
+        }
+    }
+
+    /// How far the draw reaches: a draw of books that all end in round one would compare little.
+    pub fn reach(&self) -> String {
+        format!("{} books accepted, up to {} rounds, in {} the folds change the rounds", self.accepted, self.most_rounds, self.moved)
+    }
+
+    /// Prints the counts and says whether each is above zero.
+    pub fn print(&self) -> bool {
+        let numbers: Vec<String> = self.numbers.iter().enumerate().map(|(number, count)| format!("{number}: {count}")).collect();
+        println!("numbers: {}", numbers.join(", "));
+        let limits: Vec<String> = (0..LIMITS.len()).map(|limit| self.limit(limit)).collect();
+        println!("limits: {}", limits[..4].join("; "));
+        println!("limits: {}", limits[4..].join("; "));
+        println!("names: in {} books accepted one begins another", self.begun);
+        self.numbers.iter().chain(&self.within).chain(&self.past).chain([&self.begun]).all(|&count| count > 0)
+    }
+
+    fn limit(&self, limit: usize) -> String {
+        let (name, at) = LIMITS[limit];
+        format!("{name} {at}: {}, {}: {}", self.within[limit], at + 1, self.past[limit])
+    }
+}
+
+/// In order, a name comes just before those that it begins.
+fn one_begins_another(names: &[Vec<u8>]) -> bool {
+    let mut names: Vec<&[u8]> = names.iter().map(Vec::as_slice).collect();
+    names.sort_unstable();
+    names.windows(2).any(|pair| pair[1].starts_with(pair[0]))
+}
+
+/// Whether the refused line has a name of 33 bytes and would have a listed form with one byte less.
+fn one_byte_too_long(text: &[u8], refusal: Refusal) -> bool {
+    let line = text.split(|&byte| byte == b'\n').nth(refusal.line as usize - 1).unwrap_or(&[]);
+    let mut start = 0;
+    for at in 0..=line.len() {
+        if at == line.len() || !name_byte(line[at]) {
+            if at - start == NAME + 1 {
+                let less = [&line[..start], &line[start + 1..]].concat();
+                return form(&less).is_some();
+            }
+            start = at + 1;
+        }
+    }
+    false
+}
