@@ -1,0 +1,180 @@
+// Times the engine's call against the two C programs, in one run, by turns.
+//
+// What is cleared: the engine's call zeroes its own areas (names 4,096 bytes, heads 512, bodies 4,096, three areas of 8,192, model 32) on
+// every call, and what a book leaves unused once more, as document 01 has it for lent areas; that is in its time. The C programs clear
+// nothing that they write before they read it. All three zero the listing's tail. Nothing is cleared between calls here.
+#define _POSIX_C_SOURCE 200809L
+#include "shapes.h"
+
+#include <stdio.h>
+#include <stdlib.h>
+#include <string.h>
+#include <time.h>
+
+enum { SAMPLES = 101, WARM = 5 };
+
+typedef uint64_t call(const uint8_t *, size_t, uint64_t, uint8_t *, size_t);
+
+static call *const calls[3] = {dpb_list, baseline_list, counting_list};
+static const char *const call_names[3] = {"dpb_list", "baseline", "counting"};
+
+static double now(void) {
+    struct timespec t;
+    clock_gettime(CLOCK_MONOTONIC, &t);
+    return (double)t.tv_sec * 1e6 + (double)t.tv_nsec / 1e3;
+}
+
+// Where the names begin: after the head line.
+static const uint8_t *names_in(const uint8_t *listing) {
+    const uint8_t *end = memchr(listing, '\n', DPB_LISTING_BYTES);
+    return end ? end + 1 : listing;
+}
+
+// The counting program's head line is shorter, so its names are compared up to the first zero byte.
+static bool same_names(const uint8_t *a, const uint8_t *b) {
+    const char *x = (const char *)names_in(a), *y = (const char *)names_in(b);
+    return strcmp(x, y) == 0;
+}
+
+// Whether the three agree: the same number; the same bytes from the first two, whatever was there; the same names from the third.
+static bool agree(const uint8_t *text, size_t length, uint64_t folds, size_t listing_len) {
+    static uint8_t listings[3][DPB_LISTING_BYTES + 1];
+    uint64_t numbers[3];
+    memset(listings, 0xa5, sizeof listings);
+    for (size_t c = 0; c < 3; c++) numbers[c] = calls[c](text, length, folds, listings[c], listing_len);
+    if (numbers[0] != numbers[1] || numbers[0] != numbers[2]) return false;
+    if (memcmp(listings[0], listings[1], sizeof listings[0]) != 0) return false;
+    if (numbers[0] != 0) return memcmp(listings[0], listings[2], sizeof listings[0]) == 0;
+    return same_names(listings[0], listings[2]);
+}
+
+static void demand(bool holds, const char *what, uint64_t folds) {
+    if (holds) return;
+    printf("the calls do not agree: %s, %d folds\n", what, (int)folds);
+    exit(1);
+}
+
+// Spoilt books: bytes of a shape changed, moved or cut off, so that refusals are compared too.
+static void compare_spoilt(void) {
+    static const char bytes[] = "a:b #\n\tZ.\r:  \n";
+    static struct text text;
+    static uint8_t spoilt[DPB_TEXT_BYTES + 1];
+    size_t compared = 0, accepted = 0;
+    srand(1);
+    for (size_t s = 0; s < shape_count; s++) {
+        shapes[s].make(&text);
+        for (size_t turn = 0; turn < 2000; turn++) {
+            size_t length = text.length;
+            memcpy(spoilt, text.bytes, length);
+            if (turn % 4 == 0) length = (size_t)rand() % (length + 1);
+            if (turn % 8 == 1) { // a part moved to just after the mark: some rules go, some stand twice
+                size_t start = (size_t)rand() % length;
+                memmove(spoilt + 9, spoilt + start, length - start < 9 ? 0 : length - start - 9);
+            }
+            for (size_t k = turn % 3; k > 0 && length > 0; k--) {
+                spoilt[(size_t)rand() % length] = (uint8_t)bytes[(size_t)rand() % (sizeof bytes - 1)];
+            }
+            if (length > 0 && turn % 16 != 0) spoilt[length - 1] = '\n';
+            demand(agree(spoilt, length, turn % 9, DPB_LISTING_BYTES), "a spoilt book", turn % 9);
+            compared++;
+            uint8_t listing[DPB_LISTING_BYTES];
+            accepted += baseline_list(spoilt, length, turn % 9, listing, sizeof listing) == 0;
+        }
+        demand(agree(text.bytes, text.length, 9, DPB_LISTING_BYTES), shapes[s].name, 9);
+        demand(agree(text.bytes, text.length, 8, DPB_LISTING_BYTES - 1), "a short listing", 8);
+    }
+    demand(agree(spoilt, DPB_TEXT_BYTES + 1, 8, DPB_LISTING_BYTES), "a long text", 8);
+    printf("compared: %zu spoilt books, %zu of them accepted; the same numbers and listings\n", compared, accepted);
+}
+
+static int by_value(const void *a, const void *b) {
+    double x = *(const double *)a, y = *(const double *)b;
+    return (x > y) - (x < y);
+}
+
+static double median(double *values) {
+    qsort(values, SAMPLES, sizeof *values, by_value);
+    return values[SAMPLES / 2];
+}
+
+// Microseconds for one call, over a batch.
+static double sample(call *f, const struct text *text, uint64_t folds, size_t batch) {
+    static uint8_t listing[DPB_LISTING_BYTES];
+    double start = now();
+    for (size_t k = 0; k < batch; k++) f(text->bytes, text->length, folds, listing, sizeof listing);
+    return (now() - start) / (double)batch;
+}
+
+// A batch that takes half a millisecond or more.
+static size_t batch_for(call *f, const struct text *text, uint64_t folds) {
+    size_t batch = 1;
+    while (sample(f, text, folds, batch) * (double)batch < 500) batch *= 2;
+    return batch;
+}
+
+// The three by turns, so that what slows the machine for a while slows all of them.
+static void measure(const struct text *text, uint64_t folds, double result[3]) {
+    static double samples[3][SAMPLES];
+    size_t batch[3];
+    for (size_t c = 0; c < 3; c++) batch[c] = batch_for(calls[c], text, folds);
+    for (int s = -WARM; s < SAMPLES; s++) {
+        for (size_t c = 0; c < 3; c++) {
+            double t = sample(calls[c], text, folds, batch[c]);
+            if (s >= 0) samples[c][s] = t;
+        }
+    }
+    for (size_t c = 0; c < 3; c++) result[c] = median(samples[c]);
+}
+
+struct worst {
+    const char *shape;
+    uint64_t folds;
+    double ratio;
+};
+
+static void run_shape(const struct shape *shape, uint64_t folds, struct worst *worst) {
+    static struct text text;
+    shape->make(&text);
+    demand(agree(text.bytes, text.length, folds, DPB_LISTING_BYTES), shape->name, folds);
+    uint8_t listing[DPB_LISTING_BYTES];
+    uint64_t number = baseline_list(text.bytes, text.length, folds, listing, sizeof listing);
+    demand((number != 0) == shape->reading, shape->name, folds);
+    double t[3];
+    measure(&text, folds, t);
+    printf("| %-22s | %5zu | %d | %8.2f | %8.2f | %5.2f | %8.2f | %6.2f |\n", shape->name, text.length, (int)folds, t[0], t[1], t[0] / t[1], t[2],
+           t[0] / t[2]);
+    fflush(stdout);
+    if (t[0] / t[1] > worst->ratio) *worst = (struct worst){shape->name, folds, t[0] / t[1]};
+}
+
+// Calls one program on one shape over and over, for a profiler.
+static int repeat(const char *who, size_t s, uint64_t folds, size_t times) {
+    static struct text text;
+    for (size_t c = 0; c < 3; c++) {
+        if (strcmp(who, call_names[c]) != 0 || s >= shape_count) continue;
+        shapes[s].make(&text);
+        sample(calls[c], &text, folds, times);
+        return 0;
+    }
+    fprintf(stderr, "usage: bench [dpb_list|baseline|counting SHAPE FOLDS TIMES]\n");
+    return 2;
+}
+
+int main(int argc, char **argv) {
+    if (argc == 5) return repeat(argv[1], strtoul(argv[2], NULL, 10), strtoul(argv[3], NULL, 10), strtoul(argv[4], NULL, 10));
+    compare_spoilt();
+    printf("medians of %d samples, in microseconds a call\n\n", SAMPLES);
+    printf("| Shape                  | Bytes | Folds | dpb_list | baseline | ratio | counting | ratio |\n|---|---|---|---|---|---|---|---|\n");
+    struct worst whole = {"", 0, 0}, reading = {"", 0, 0};
+    for (size_t s = 0; s < shape_count; s++) {
+        if (shapes[s].reading) {
+            run_shape(&shapes[s], 8, &reading);
+        } else {
+            run_shape(&shapes[s], 0, &whole);
+            run_shape(&shapes[s], 8, &whole);
+        }
+    }
+    printf("\nlargest ratio against the baseline, from text to listing: %.2f (%s, %d folds; goal 1.5)\n", whole.ratio, whole.shape, (int)whole.folds);
+    printf("largest ratio against the baseline, reading alone: %.2f (%s; goal 3)\n", reading.ratio, reading.shape);
+    return 0;
+}
