@@ -79,7 +79,7 @@ static inline size_t number_of(struct book *book, const struct word *word) {
     }
     if (book->n == DPB_NAMES) return DPB_NAMES;
     size_t a = book->n++;
-    memcpy(book->names[a], word->words, DPB_NAME_BYTES); // all 32: of known length, so no call
+    memcpy(book->names[a], word->words, DPB_NAME_BYTES); // all of them: of known length, so no call
     book->length[a] = (uint8_t)word->length;
     book->slots[slot] = (uint8_t)(a + 1);
     return a;
@@ -94,7 +94,7 @@ static const uint8_t *read_rule(const uint8_t *p, struct book *book, uint64_t *c
     p = past_blanks(word.end);
     if (*p++ != ':') return NULL;
     uint64_t lacks = 0;
-    uint64_t body[2] = {0, 0};
+    uint64_t body[BODY_WORDS] = {0, 0};
     size_t head = 0;
     if (book->m == DPB_RULES) {
         lacks = DPB_REFUSED_RULES;
@@ -112,7 +112,7 @@ static const uint8_t *read_rule(const uint8_t *p, struct book *book, uint64_t *c
         if (a == DPB_NAMES) {
             lacks = DPB_REFUSED_NAMES;
         } else {
-            body[a / 64] |= (uint64_t)1 << a % 64;
+            body[a / WORD_BITS] |= (uint64_t)1 << a % WORD_BITS;
         }
     }
     *cause = lacks;
@@ -125,14 +125,14 @@ static const uint8_t *read_rule(const uint8_t *p, struct book *book, uint64_t *c
 }
 
 uint64_t read_book(const uint8_t *text, size_t text_len, struct book *book) {
-    if (text_len < 9 || memcmp(text, "DPB 0001\n", 9) != 0) return refusal(DPB_REFUSED_MARK, 0);
+    if (text_len < MARK_BYTES || memcmp(text, MARK, MARK_BYTES) != 0) return refusal(DPB_REFUSED_MARK, 0);
     if (text[text_len - 1] != '\n') return refusal(DPB_REFUSED_NO_LINE_END, 0);
     book->n = 0;
     book->m = 0;
     memset(book->slots, 0, sizeof book->slots);
     const uint8_t *end = text + text_len;
     uint64_t line = 2;
-    for (const uint8_t *p = text + 9; p < end; p++, line++) {
+    for (const uint8_t *p = text + MARK_BYTES; p < end; p++, line++) {
         if (*p == '#') {
             p = memchr(p, '\n', (size_t)(end - p));
             continue;
@@ -156,9 +156,9 @@ uint64_t judge_call(size_t text_len, uint64_t folds, size_t listing_len) {
 
 // Standardising.
 
-typedef uint64_t row[4];
+typedef uint64_t row[ROW_WORDS];
 
-static inline void set_bit(row r, size_t a) { r[a / 64] |= (uint64_t)1 << a % 64; }
+static inline void set_bit(row r, size_t a) { r[a / WORD_BITS] |= (uint64_t)1 << a % WORD_BITS; }
 
 static inline void only(row r, size_t a) {
     memset(r, 0, sizeof(row));
@@ -207,9 +207,9 @@ static void standardise(const struct book *book, const uint16_t rules_of[DPB_NAM
 static void fold_rows(row *from, row *to, size_t atoms) {
     for (size_t i = 0; i < atoms; i++) {
         uint64_t r0 = 0, r1 = 0, r2 = 0, r3 = 0;
-        for (size_t k = 0; k < 4; k++) {
+        for (size_t k = 0; k < ROW_WORDS; k++) {
             for (uint64_t rest = from[i][k]; rest != 0; rest &= rest - 1) {
-                const uint64_t *other = from[k * 64 + (size_t)__builtin_ctzll(rest)];
+                const uint64_t *other = from[k * WORD_BITS + (size_t)__builtin_ctzll(rest)];
                 r0 |= other[0];
                 r1 |= other[1];
                 r2 |= other[2];
@@ -245,12 +245,12 @@ static inline bool meets(const row a, const row b) {
 
 // One round: `next` gets the set after v, word by word. Only a name with several rules has an "any" row.
 static void make_round(row *all, row *any, const uint16_t rules_of[DPB_NAMES], size_t n, size_t atoms, const row v, row next) {
-    for (size_t k = 0; k < 4; k++) {
+    for (size_t k = 0; k < ROW_WORDS; k++) {
         uint64_t word = 0;
-        size_t start = k * 64, end = atoms < start + 64 ? atoms : start + 64;
+        size_t start = k * WORD_BITS, end = atoms < start + WORD_BITS ? atoms : start + WORD_BITS;
         for (size_t i = start; i < end; i++) {
             bool in = i < n && rules_of[i] > 1 ? meets(any[i], v) : within(all[i], v);
-            word |= (uint64_t)in << i % 64;
+            word |= (uint64_t)in << i % WORD_BITS;
         }
         next[k] = word;
     }
@@ -278,11 +278,11 @@ uint8_t *put_field(uint8_t *to, const char *field, size_t number) {
     return to;
 }
 
-uint8_t *put_held(uint8_t *to, const struct book *book, const uint64_t held[2]) {
-    for (size_t k = 0; k < 2; k++) {
+uint8_t *put_held(uint8_t *to, const struct book *book, const uint64_t held[BODY_WORDS]) {
+    for (size_t k = 0; k < BODY_WORDS; k++) {
         for (uint64_t rest = held[k]; rest != 0; rest &= rest - 1) {
-            size_t a = k * 64 + (size_t)__builtin_ctzll(rest);
-            memcpy(to, book->names[a], DPB_NAME_BYTES); // the area has room: at most 128 lines of 33 bytes after some 50
+            size_t a = k * WORD_BITS + (size_t)__builtin_ctzll(rest);
+            memcpy(to, book->names[a], DPB_NAME_BYTES); // the area has room for as many lines of full length, after some 50 bytes
             to += book->length[a];
             *to++ = '\n';
         }
@@ -291,16 +291,16 @@ uint8_t *put_held(uint8_t *to, const struct book *book, const uint64_t held[2]) 
 }
 
 // The names among the atoms of v.
-static void names_of(const row v, size_t n, uint64_t held[2]) {
-    held[0] = n < 64 ? v[0] & (((uint64_t)1 << n) - 1) : v[0];
-    held[1] = n < 64 ? 0 : n < 128 ? v[1] & (((uint64_t)1 << (n - 64)) - 1) : v[1];
+static void names_of(const row v, size_t n, uint64_t held[BODY_WORDS]) {
+    held[0] = n < WORD_BITS ? v[0] & (((uint64_t)1 << n) - 1) : v[0];
+    held[1] = n < WORD_BITS ? 0 : n < 2 * WORD_BITS ? v[1] & (((uint64_t)1 << (n - WORD_BITS)) - 1) : v[1];
 }
 
 static void write_listing(const struct book *book, const row v, uint64_t folds, size_t rounds, uint8_t *listing) {
-    uint64_t held[2];
+    uint64_t held[BODY_WORDS];
     names_of(v, book->n, held);
     size_t count = (size_t)(__builtin_popcountll(held[0]) + __builtin_popcountll(held[1]));
-    uint8_t *to = put_field(listing, "DPL 0001 names=", book->n);
+    uint8_t *to = put_field(listing, LISTED " names=", book->n);
     to = put_field(to, " held=", count);
     to = put_field(to, " folds=", folds);
     to = put_field(to, " rounds=", rounds);

@@ -16,8 +16,8 @@ struct waiting {
 
 // The names of a body, by rising number.
 #define EACH_NAME(body, a)                                                     \
-    for (size_t k_ = 0; k_ < 2; k_++)                                          \
-        for (uint64_t rest_ = (body)[k_], a; rest_ != 0 && (a = k_ * 64 + (uint64_t)__builtin_ctzll(rest_), 1); rest_ &= rest_ - 1)
+    for (size_t k_ = 0; k_ < BODY_WORDS; k_++)                                         \
+        for (uint64_t rest_ = (body)[k_], a; rest_ != 0 && (a = k_ * WORD_BITS + (uint64_t)__builtin_ctzll(rest_), 1); rest_ &= rest_ - 1)
 
 // The rules are sorted by the names they wait for: count, add up, place.
 static void sort_uses(const struct book *book, struct waiting *w) {
@@ -37,15 +37,15 @@ static void sort_uses(const struct book *book, struct waiting *w) {
 }
 
 // A name joins the held ones, and the work list where it is new.
-static size_t hold(size_t a, uint64_t held[2], uint8_t *todo, size_t count) {
-    if (held[a / 64] >> a % 64 & 1) return count;
-    held[a / 64] |= (uint64_t)1 << a % 64;
+static size_t hold(size_t a, uint64_t held[BODY_WORDS], uint8_t *todo, size_t count) {
+    if (held[a / WORD_BITS] >> a % WORD_BITS & 1) return count;
+    held[a / WORD_BITS] |= (uint64_t)1 << a % WORD_BITS;
     todo[count] = (uint8_t)a;
     return count + 1;
 }
 
 // The held names; returns how many there are. The work list keeps what is done: each name is on it once.
-static size_t solve(const struct book *book, struct waiting *w, uint64_t held[2]) {
+static size_t solve(const struct book *book, struct waiting *w, uint64_t held[BODY_WORDS]) {
     uint8_t todo[DPB_NAMES];
     size_t count = 0;
     held[0] = held[1] = 0;
@@ -72,9 +72,9 @@ uint64_t counting_list(const uint8_t *text, size_t text_len, uint64_t folds, uin
     if (count_atoms(&book, rules_of) > DPB_ATOMS) return refusal(DPB_REFUSED_ATOMS, 0);
     struct waiting waiting;
     sort_uses(&book, &waiting);
-    uint64_t held[2];
+    uint64_t held[BODY_WORDS];
     size_t count = solve(&book, &waiting, held);
-    uint8_t *to = put_field(listing, "DPL 0001 names=", book.n);
+    uint8_t *to = put_field(listing, LISTED " names=", book.n);
     to = put_field(to, " held=", count);
     *to++ = '\n';
     to = put_held(to, &book, held);

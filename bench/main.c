@@ -1,6 +1,6 @@
 // Times the engine's call against the two C programs, in one run, by turns.
 //
-// What is cleared: the engine's call zeroes its own areas (names 4,096 bytes, heads 512, bodies 4,096, three areas of 8,192, model 32) on
+// What is cleared: the engine's call zeroes its own areas (names, heads, bodies, three areas of rows, model) on
 // every call, and what a book leaves unused once more, as document 01 has it for lent areas; that is in its time. The C programs clear
 // nothing that they write before they read it. All three zero the listing's tail. Nothing is cleared between calls here.
 #define _POSIX_C_SOURCE 200809L
@@ -69,21 +69,22 @@ static void compare_spoilt(void) {
             if (turn % 4 == 0) length = (size_t)rand() % (length + 1);
             if (turn % 8 == 1) { // a part moved to just after the mark: some rules go, some stand twice
                 size_t start = (size_t)rand() % length;
-                memmove(spoilt + 9, spoilt + start, length - start < 9 ? 0 : length - start - 9);
+                memmove(spoilt + MARK_BYTES, spoilt + start, length - start < MARK_BYTES ? 0 : length - start - MARK_BYTES);
             }
             for (size_t k = turn % 3; k > 0 && length > 0; k--) {
                 spoilt[(size_t)rand() % length] = (uint8_t)bytes[(size_t)rand() % (sizeof bytes - 1)];
             }
             if (length > 0 && turn % 16 != 0) spoilt[length - 1] = '\n';
-            demand(agree(spoilt, length, turn % 9, DPB_LISTING_BYTES), "a spoilt book", turn % 9);
+            uint64_t folds = turn % (DPB_FOLDS + 1);
+            demand(agree(spoilt, length, folds, DPB_LISTING_BYTES), "a spoilt book", folds);
             compared++;
             uint8_t listing[DPB_LISTING_BYTES];
-            accepted += baseline_list(spoilt, length, turn % 9, listing, sizeof listing) == 0;
+            accepted += baseline_list(spoilt, length, folds, listing, sizeof listing) == 0;
         }
-        demand(agree(text.bytes, text.length, 9, DPB_LISTING_BYTES), shapes[s].name, 9);
-        demand(agree(text.bytes, text.length, 8, DPB_LISTING_BYTES - 1), "a short listing", 8);
+        demand(agree(text.bytes, text.length, DPB_FOLDS + 1, DPB_LISTING_BYTES), shapes[s].name, DPB_FOLDS + 1);
+        demand(agree(text.bytes, text.length, DPB_FOLDS, DPB_LISTING_BYTES - 1), "a short listing", DPB_FOLDS);
     }
-    demand(agree(spoilt, DPB_TEXT_BYTES + 1, 8, DPB_LISTING_BYTES), "a long text", 8);
+    demand(agree(spoilt, DPB_TEXT_BYTES + 1, DPB_FOLDS, DPB_LISTING_BYTES), "a long text", DPB_FOLDS);
     printf("compared: %zu spoilt books, %zu of them accepted; the same numbers and listings\n", compared, accepted);
 }
 
@@ -168,10 +169,10 @@ int main(int argc, char **argv) {
     struct worst whole = {"", 0, 0}, reading = {"", 0, 0};
     for (size_t s = 0; s < shape_count; s++) {
         if (shapes[s].reading) {
-            run_shape(&shapes[s], 8, &reading);
+            run_shape(&shapes[s], DPB_FOLDS, &reading);
         } else {
             run_shape(&shapes[s], 0, &whole);
-            run_shape(&shapes[s], 8, &whole);
+            run_shape(&shapes[s], DPB_FOLDS, &whole);
         }
     }
     printf("\nlargest ratio against the baseline, from text to listing: %.2f (%s, %d folds; goal 1.5)\n", whole.ratio, whole.shape, (int)whole.folds);

@@ -22,8 +22,13 @@ static void add(struct text *text, const char *format, ...) {
 
 static void begin(struct text *text) {
     text->length = 0;
-    add(text, "DPB 0001\n");
+    add(text, MARK);
 }
+
+// How many heads fit into the atoms: those of two rules in a row after one fact, and those of two rules with a name between each two. How many
+// heads of dense bodies there are beside eight facts. The names of the shapes, at the end, say these figures.
+enum { IN_A_ROW = (DPB_ATOMS - 1) / 3, WITH_NAMES = DPB_ATOMS / 4, FACTS = 8, DENSE = DPB_NAMES - FACTS };
+_Static_assert(DPB_NAMES == 128 && DPB_NAME_BYTES == 32 && DPB_ATOMS == 256 && IN_A_ROW == 85 && WITH_NAMES == 64, "the names of the shapes");
 
 static size_t room(const struct text *text) { return DPB_TEXT_BYTES - text->length; }
 
@@ -62,19 +67,19 @@ static void chain(struct text *text, size_t length) {
 }
 
 static void chain_100(struct text *text) { chain(text, 100); }
-static void chain_128(struct text *text) { chain(text, 128); }
+static void chain_all(struct text *text) { chain(text, DPB_NAMES); }
 
-// A dense body for each of 120 heads, as long as the text has room for: any of 128 names, or those below the head, so that all are held.
+// A dense body for each head, as long as the text has room for: any names, or those below the head, so that all are held.
 static void dense(struct text *text, bool layered, bool several) {
     state = 88172645463325252u;
     begin(text);
-    for (size_t a = 0; a < 8; a++) add(text, "%s:\n", short_name(a));
-    for (size_t left = 120; left > 0; left--) {
-        size_t head = several ? 8 + below(60) : 128 - left;
+    for (size_t a = 0; a < FACTS; a++) add(text, "%s:\n", short_name(a));
+    for (size_t left = DENSE; left > 0; left--) {
+        size_t head = several ? FACTS + below(DENSE / 2) : DPB_NAMES - left;
         size_t most = room(text) / left - 1;
         size_t start = text->length;
         add(text, "%s:", short_name(head));
-        while (text->length - start + 3 < most) add(text, "%s ", short_name(layered ? below(head) : below(128)));
+        while (text->length - start + 3 < most) add(text, "%s ", short_name(layered ? below(head) : below(DPB_NAMES)));
         add(text, "\n");
     }
     fill(text);
@@ -84,11 +89,11 @@ static void dense_any(struct text *text) { dense(text, false, false); }
 static void dense_layered(struct text *text) { dense(text, true, false); }
 static void dense_several(struct text *text) { dense(text, true, true); }
 
-// 85 heads of two rules: 256 atoms, and two rounds for each head, with or without folds.
+// Heads of two rules in a row: all atoms, and two rounds for each head, with or without folds.
 static void alternatives(struct text *text) {
     begin(text);
     add(text, "f:\n");
-    for (size_t i = 0; i < 85; i++) {
+    for (size_t i = 0; i < IN_A_ROW; i++) {
         if (i == 0) {
             add(text, "h0:f\n");
         } else {
@@ -98,35 +103,36 @@ static void alternatives(struct text *text) {
     }
 }
 
-// 64 names of two rules and 64 of one, all of 32 bytes: 256 atoms and nearly the longest listing.
+// Names of two rules and as many of one, all of full length: all atoms and the longest listing.
 static void ladder(struct text *text) {
     begin(text);
-    for (size_t i = 0; i < 64; i++) {
+    for (size_t i = 0; i < WITH_NAMES; i++) {
+        const int w = DPB_NAME_BYTES - 1; // digits after the letter
         if (i == 0) {
-            add(text, "u%031zu:\n", i);
+            add(text, "u%0*zu:\n", w, i);
         } else {
-            add(text, "u%031zu:h%031zu\n", i, i - 1);
+            add(text, "u%0*zu:h%0*zu\n", w, i, w, i - 1);
         }
-        add(text, "h%031zu:u%031zu\nh%031zu:h%031zu\n", i, i, i, i);
+        add(text, "h%0*zu:u%0*zu\nh%0*zu:h%0*zu\n", w, i, w, i, w, i, w, i);
     }
 }
 
-// Bodies of all 128 names while there is room; each other rule has one of their heads as its body, so that one fold fills its row too.
+// Bodies of all names while there is room; each other rule has one of their heads as its body, so that one fold fills its row too.
 static void full(struct text *text, size_t singles, size_t ways) {
     begin(text);
     size_t heads = 0;
     while (room(text) > 400 + 7 * (singles + ways)) {
         add(text, "%s:", short_name(heads++));
-        for (size_t a = 0; a < 128; a++) add(text, " %s", short_name(a));
+        for (size_t a = 0; a < DPB_NAMES; a++) add(text, " %s", short_name(a));
         add(text, "\n");
     }
     for (size_t a = heads; a < singles; a++) add(text, "%s:%s\n", short_name(a), short_name(a % heads));
-    for (size_t j = 0; j < ways; j++) add(text, "%s:%s\n", short_name(127), short_name(j % heads));
+    for (size_t j = 0; j < ways; j++) add(text, "%s:%s\n", short_name(DPB_NAMES - 1), short_name(j % heads));
     fill(text);
 }
 
-static void full_128(struct text *text) { full(text, 128, 0); }
-static void full_256(struct text *text) { full(text, 127, 128); }
+static void full_names(struct text *text) { full(text, DPB_NAMES, 0); }
+static void full_atoms(struct text *text) { full(text, DPB_NAMES - 1, DPB_ATOMS - DPB_NAMES); }
 
 static void everyday(struct text *text) {
     begin(text);
@@ -162,10 +168,10 @@ static void read_short(struct text *text) {
 static void read_long(struct text *text) {
     state = 88172645463325252u;
     begin(text);
-    while (room(text) > 33 * 4 + 4) {
-        add(text, "conformance-of-clause-%010zu:", below(128));
-        for (size_t k = 0; k < 2; k++) add(text, "conformance-of-clause-%010zu ", below(128));
-        add(text, "conformance-of-clause-%010zu\n", below(128));
+    while (room(text) > (DPB_NAME_BYTES + 1) * 4 + 4) {
+        add(text, "conformance-of-clause-%010zu:", below(DPB_NAMES));
+        for (size_t k = 0; k < 2; k++) add(text, "conformance-of-clause-%010zu ", below(DPB_NAMES));
+        add(text, "conformance-of-clause-%010zu\n", below(DPB_NAMES));
     }
     at_fault(text);
 }
@@ -176,8 +182,8 @@ static void read_remarks(struct text *text) {
     begin(text);
     while (room(text) > 69) {
         add(text, "# what has to be up before it: %s\n", "see the plan");
-        add(text, "%s:", short_name(39 + below(89)));
-        for (size_t k = 0; k < 6; k++) add(text, " %s", short_name(39 + below(89)));
+        add(text, "%s:", short_name(39 + below(DPB_NAMES - 39)));
+        for (size_t k = 0; k < 6; k++) add(text, " %s", short_name(39 + below(DPB_NAMES - 39)));
         add(text, "\n");
     }
     at_fault(text);
@@ -186,14 +192,14 @@ static void read_remarks(struct text *text) {
 const struct shape shapes[] = {
     {"everyday, 16 rules", false, everyday},
     {"chain of 100", false, chain_100},
-    {"chain of 128", false, chain_128},
+    {"chain of 128", false, chain_all},
     {"dense, any names", false, dense_any},
     {"dense, names below", false, dense_layered},
     {"dense, several rules", false, dense_several},
     {"85 heads of two rules", false, alternatives},
     {"ladder of 64", false, ladder},
-    {"full rows, 128 atoms", false, full_128},
-    {"full rows, 256 atoms", false, full_256},
+    {"full rows, 128 atoms", false, full_names},
+    {"full rows, 256 atoms", false, full_atoms},
     {"reading: short names", true, read_short},
     {"reading: 32-byte names", true, read_long},
     {"reading: remarks", true, read_remarks},

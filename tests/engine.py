@@ -8,12 +8,15 @@ import os
 import re
 import sys
 
+from figures import ATOMS, BODY_AREA, BODY_WORDS, MARK, NAME_AREA, NAME_BYTES, NAMES, RULES, TEXT_BYTES, WORD_BITS, Refusal
+
 ROOT = os.path.join(os.path.dirname(os.path.abspath(__file__)), "..")
-MARK = b"DPB 0001\n"
 NAME = rb"[A-Za-z0-9._-]+"
 RULE = re.compile(rb"[ \t]*(" + NAME + rb")[ \t]*:[ \t]*(" + NAME + rb"(?:[ \t]+" + NAME + rb")*)?[ \t]*")
-# what the areas of the test programs hold before a call, and the entries that they lend past the stated sizes
+# what the areas of the test programs hold before a call, the entries that they lend past the stated sizes, up to how many atoms they print rows and
+# listings whole, and how large a file they read: the figures of crates/trial
 JUNK8, JUNK16, JUNK64, GUARD = 165, 4660, 81985529216486895, 4
+FEW, INPUT = 12, 65536
 MOST = 2**64 - 1
 
 
@@ -35,26 +38,26 @@ def text_of(lines):
 
 def read(text):
     """names and rules (head, set of numbers) of a book"""
-    if len(text) > 16384:
-        raise Refused(2)
-    if text[:9] != MARK:
-        raise Refused(3)
+    if len(text) > TEXT_BYTES:
+        raise Refused(Refusal.LONG_TEXT)
+    if not text.startswith(MARK):
+        raise Refused(Refusal.MARK)
     if not text.endswith(b"\n"):
-        raise Refused(4)
+        raise Refused(Refusal.LAST_BYTE)
     numbers, rules = {}, []
     for place, line in enumerate(text.split(b"\n")[1:-1]):
         if line.startswith(b"#") or not line.strip(b" \t"):
             continue
         form = RULE.fullmatch(line)
         spelt = [form[1]] + (form[2] or b"").split() if form else []
-        if not form or any(len(name) > 32 for name in spelt):
-            raise Refused(5, place + 2)
-        if len(rules) == 256:
-            raise Refused(7, place + 2)
+        if not form or any(len(name) > NAME_BYTES for name in spelt):
+            raise Refused(Refusal.LINE, place + 2)
+        if len(rules) == RULES:
+            raise Refused(Refusal.RULES, place + 2)
         for name in spelt:
             numbers.setdefault(name.lower(), len(numbers))
-        if len(numbers) > 128:
-            raise Refused(6, place + 2)
+        if len(numbers) > NAMES:
+            raise Refused(Refusal.NAMES, place + 2)
         head, *body = [numbers[name.lower()] for name in spelt]
         rules.append((head, set(body)))
     return list(numbers), rules
@@ -116,8 +119,8 @@ def standardised(n, rules):
         if len(ways[head]) > 1:
             helpers[j] = n + len(helpers)
     atoms = range(n + len(helpers))
-    if len(atoms) > 256:
-        raise Refused(8)
+    if len(atoms) > ATOMS:
+        raise Refused(Refusal.ATOMS)
     rows, ors, start, counted = {}, {}, set(), set()
 
     def over(atom, body):
@@ -155,7 +158,7 @@ def rounds(rows, ors, start):
         after = {a for a in range(len(rows)) if (ors[a] & v if ors[a] else rows[a] <= v)}
         count += 1
         if count == 1 and v - after:
-            raise Refused(11)
+            raise Refused(Refusal.START_LOST)
         if after == v:
             return count, v
         v = after
@@ -167,7 +170,7 @@ def rounds(rows, ors, start):
 @functools.lru_cache(64)
 def sets(entries, width):
     """the rows of an area"""
-    masks = (sum(x << 64 * k for k, x in enumerate(entries[i:i + width])) for i in range(0, len(entries), width))
+    masks = (sum(x << WORD_BITS * k for k, x in enumerate(entries[i:i + width])) for i in range(0, len(entries), width))
     return tuple(frozenset(k for k in range(mask.bit_length()) if mask >> k & 1) for mask in masks)
 
 
@@ -176,18 +179,18 @@ def words(rows, width, size):
     area = [0] * size
     for i, row in enumerate(rows):
         for a in row:
-            area[i * width + a // 64] |= 1 << a % 64
+            area[i * width + a // WORD_BITS] |= 1 << a % WORD_BITS
     return area
 
 
 def spellings(names):
     """the name area"""
-    return list(b"".join(name.ljust(32, b"\0") for name in names).ljust(4096, b"\0"))
+    return list(b"".join(name.ljust(NAME_BYTES, b"\0") for name in names).ljust(NAME_AREA, b"\0"))
 
 
 def tables(rules):
     """the areas of heads and of bodies"""
-    return [head for head, _ in rules] + [0] * (256 - len(rules)), words([body for _, body in rules], 2, 512)
+    return [head for head, _ in rules] + [0] * (RULES - len(rules)), words([body for _, body in rules], BODY_WORDS, BODY_AREA)
 
 
 @functools.lru_cache(4096)

@@ -1,4 +1,8 @@
-# Books that several checks of tests/ use: rules as document 01 writes them, one a line.
+# Books that several checks of tests/ use: rules as document 01 writes them, one a line. Limits and the printed book's figures are those of figures.py.
+import os
+import re
+
+from figures import ATOMS, FOLDS, MARK, NAME_BYTES, NAMES, TEXT_BYTES, Printed
 
 # Marked * in document 01: rules, names held, rounds by folds (worked out where the text has none).
 KNOWN = {
@@ -9,7 +13,7 @@ KNOWN = {
     "undefined": ("x:y z/y:", "y", {0: 1, 1: 1}),
     "chain_4": ("d:c/c:b/b:a/a:", "a b c d", {0: 4, 1: 3, 2: 2}),
     "pair_and_chain": ("p:q/q:p r/r:s/s:", "r s", {0: 2}),
-    "printed": ("p:q/q:p r/q:s/s:", "p q s", {0: 4, 1: 4, 8: 4}),
+    "printed": (Printed.RULES, Printed.HELD, Printed.ROUNDS),
     "pair_with_more": ("p:q s t/q:p t/s:t/t:", "s t", {0: 2}),
     "fact_among_two": ("a:/a:b", "a", {0: 2}),
     "capitals": ("P:q/Q:", "p q", {0: 2}),
@@ -51,30 +55,52 @@ def numbered(letter, numbers):
     return " ".join("%s%d" % (letter, i) for i in numbers)
 
 
+# How many heads fit into the atoms: those of two rules in a row, each over the one before, after one fact, and how many facts more then fit; those of
+# two rules with a name between each two, and how long their names can be; those of two rules beside all the names. How many rules one head can have,
+# each over a name of its own but one.
+IN_A_ROW = (ATOMS - 1) // 3
+MORE_FACTS = ATOMS - 1 - 3 * IN_A_ROW
+WITH_NAMES = ATOMS // 4
+LONG = min(NAME_BYTES, (TEXT_BYTES - len(MARK)) // (6 * WITH_NAMES) - 1)
+BESIDE_NAMES = (ATOMS - NAMES) // 2
+HELPERS = 2 * BESIDE_NAMES
+OF_ONE_HEAD = ATOMS // 2
+# the books with one atom too many
+TOO_MANY_ATOMS = [f"helpers_{HELPERS + 1}", f"helpers_{HELPERS + 1}_and_fact", f"facts_of_one_head_{ATOMS}", f"rules_of_one_head_{OF_ONE_HEAD + 1}"]
+
+
+def halved(length):
+    """the rounds by folds of a chain that long: one for each step, which a fold halves, and one that changes nothing"""
+    return [1 + (length - 2 + 2**k) // 2**k for k in range(FOLDS + 1)]
+
+
 def large_books():
-    yield "chain_128", ["n%d:n%d" % (i, i + 1) for i in range(127)] + ["n127:"]
-    yield "chain_128_backwards", ["n0:"] + ["n%d:n%d" % (i + 1, i) for i in range(127)]
-    yield "loop_128", ["n%d:n%d" % (i, (i + 1) % 128) for i in range(128)]
-    yield "loop_127_with_fact", ["n%d:n%d" % (i, (i + 1) % 127) for i in range(127)] + ["n63:"]
-    yield "heads_85", ["h0:"] + ["h%d:h%d" % (i, j) for i in range(1, 86) for j in (i - 1, i)]
-    long = lambda letter, i: "%s%02d" % (letter * 30, i)
-    yield "heads_64", [long("u", i) + ":" + (long("h", i - 1) if i else "") for i in range(64)] \
-        + [long("h", i) + ":" + long(letter, i) for i in range(64) for letter in "uh"]
-    helpers = ["n%d:n%d" % (i, j) for i in range(64) for j in (i, i + 64)]
-    yield "helpers_128", helpers
-    yield "helpers_129", helpers + ["n5:n6 n7"]
-    yield "helpers_129_and_fact", helpers[:1] + ["n0:"] + helpers[1:]
-    yield "facts_of_one_head_255", ["a:"] * 255
-    yield "facts_of_one_head_256", ["a:"] * 256
-    yield "rules_of_one_head_128", ["a:n%d" % i for i in range(127)] + ["a:"]
-    yield "rules_of_one_head_129", ["a:n%d" % i for i in range(127)] + ["a:", "a:a"]
-    yield "body_of_128", ["n0:" + numbered("n", range(128))]
-    yield "bodies_of_128", ["%02x:" % i + " ".join("%02x" % a for a in range(128)) for i in range(0, 128, 4)]
+    yield f"chain_{NAMES}", ["n%d:n%d" % (i, i + 1) for i in range(NAMES - 1)] + [f"n{NAMES - 1}:"]
+    yield f"chain_{NAMES}_backwards", ["n0:"] + ["n%d:n%d" % (i + 1, i) for i in range(NAMES - 1)]
+    yield f"loop_{NAMES}", ["n%d:n%d" % (i, (i + 1) % NAMES) for i in range(NAMES)]
+    yield f"loop_{NAMES - 1}_with_fact", ["n%d:n%d" % (i, (i + 1) % (NAMES - 1)) for i in range(NAMES - 1)] + ["n63:"]
+    more = ["more%d:" % i for i in range(MORE_FACTS)]
+    yield f"heads_{IN_A_ROW}", ["h0:"] + ["h%d:h%d" % (i, j) for i in range(1, IN_A_ROW + 1) for j in (i - 1, i)] + more
+    long = lambda letter, i: ("%02d" % i).rjust(LONG, letter)
+    yield f"heads_{WITH_NAMES}", [long("u", i) + ":" + (long("h", i - 1) if i else "") for i in range(WITH_NAMES)] \
+        + [long("h", i) + ":" + long(letter, i) for i in range(WITH_NAMES) for letter in "uh"]
+    helpers = ["n%d:n%d" % (i, j) for i in range(BESIDE_NAMES) for j in (i, i + NAMES // 2)]
+    yield f"helpers_{HELPERS}", helpers
+    yield f"helpers_{HELPERS + 1}", helpers + ["n5:n6 n7"]
+    yield f"helpers_{HELPERS + 1}_and_fact", helpers[:1] + ["n0:"] + helpers[1:]
+    yield f"facts_of_one_head_{ATOMS - 1}", ["a:"] * (ATOMS - 1)
+    yield f"facts_of_one_head_{ATOMS}", ["a:"] * ATOMS
+    yield f"rules_of_one_head_{OF_ONE_HEAD}", ["a:n%d" % i for i in range(OF_ONE_HEAD - 1)] + ["a:"]
+    yield f"rules_of_one_head_{OF_ONE_HEAD + 1}", ["a:n%d" % i for i in range(OF_ONE_HEAD - 1)] + ["a:", "a:a"]
+    yield f"body_of_{NAMES}", ["n0:" + numbered("n", range(NAMES))]
+    # as many bodies of all names as a text has room for, with a fourth byte for each name
+    bodies = TEXT_BYTES // (4 * NAMES)
+    yield f"bodies_of_{NAMES}", ["%02x:" % i + " ".join("%02x" % a for a in range(NAMES)) for i in range(0, NAMES, NAMES // bodies)]
     yield "body_over_both_words", ["a:" + numbered("n", range(100))] + ["n%d:" % i for i in range(100)]
     yield "body_over_both_words_but_one", ["a:" + numbered("n", range(100))] + ["n%d:" % i for i in range(100) if i != 77]
     yield "names_63_to_65", ["a:" + numbered("n", range(62)) + " x y z", "x:y", "y:z", "z:", "x:n3", "b:x y z"]
     yield "heads_past_64", ["a:" + numbered("n", range(90))] + ["n%d:n%d" % (i, i + 1) for i in range(60, 80)] + ["n80:", "n70:", "n71:n70 n2"]
-    for n in (64, 66, 100, 126, 128):
+    for n in (64, 66, 100, NAMES - 2, NAMES):
         both_ways = ["n%d:n%d" % (i, j) for i in range(1, 63) for j in (i - 1, i + 1)]
         yield "helpers_from_%d" % n, ["n0:" + numbered("n", range(1, n)), "n0:n1"] + both_ways + ["n63:"]
 
@@ -86,3 +112,9 @@ def mixed(chance, names, rules, near):
         size = chance.of([0, 1, 1, 1, 1, 2, 2, 3] if near else [0, 0, 1, 1, 1, 2, 2, 3])
         place = lambda: (head + 1 + chance.below(near)) % names if near else chance.below(names)
         yield "k%d:" % head + " ".join("k%d" % place() for _ in range(size))
+
+
+def format_example():
+    """the book that docs/FORMAT.md shows: its first indented lines"""
+    with open(os.path.join(os.path.dirname(os.path.abspath(__file__)), "..", "docs", "FORMAT.md"), "rb") as f:
+        return re.search(rb"(?:^    .*\n)+", f.read(), re.M)[0].replace(b"\n    ", b"\n")[4:]

@@ -7,8 +7,8 @@
  *
  * Standard output: for each book its file name and a colon, then the jobs that
  * are due, one on a line behind a tab. Standard error: what was refused, with
- * file and line, and what could not be read. Status 0 where all books were
- * listed, else 1.
+ * file and line (dpb.h has the limits), and what could not be read. Status 0
+ * where all books were listed, else 1.
  */
 #include "dpb.h"
 
@@ -25,15 +25,15 @@ struct book {
 };
 
 static const char *const causes[] = {
-    [DPB_REFUSED_SHORT_AREA] = "listing area under 4,608 bytes",
-    [DPB_REFUSED_LONG_TEXT] = "text over 16,384 bytes",
+    [DPB_REFUSED_SHORT_AREA] = "listing area too short",
+    [DPB_REFUSED_LONG_TEXT] = "text too long",
     [DPB_REFUSED_MARK] = "first line is not the mark DPB 0001",
     [DPB_REFUSED_NO_LINE_END] = "last line has no end",
     [DPB_REFUSED_LINE] = "line of no listed form",
-    [DPB_REFUSED_NAMES] = "129th name",
-    [DPB_REFUSED_RULES] = "257th rule",
-    [DPB_REFUSED_ATOMS] = "over 256 atoms",
-    [DPB_REFUSED_FOLDS] = "over 8 folds",
+    [DPB_REFUSED_NAMES] = "one name too many",
+    [DPB_REFUSED_RULES] = "one rule too many",
+    [DPB_REFUSED_ATOMS] = "too many atoms",
+    [DPB_REFUSED_FOLDS] = "too many folds",
 };
 
 /* 0, or -1 with the cause in errno */

@@ -225,7 +225,7 @@ void listed(const char *label, const struct text *book, uint64_t folds, const ch
 
 void listed_room(const char *label, const struct text *book, size_t room, const char *listing)
 {
-    struct sample s = sample(label, book, 8);
+    struct sample s = sample(label, book, FOLDS);
 
     s.room = room;
     s.listing = listing;
@@ -245,6 +245,6 @@ void refused_room(const char *label, const struct text *book, uint64_t folds, si
     struct sample s = sample(label, book, folds);
 
     s.room = room;
-    s.want = REFUSED(1, 0);
+    s.want = REFUSED(REFUSED_SHORT_AREA, 0);
     judge(&s);
 }

@@ -3,6 +3,7 @@
 #define CALLS_H
 
 #include "dpb.h"
+#include "figures.h"
 
 #define COUNT(array) (sizeof(array) / sizeof((array)[0]))
 #define REFUSED(number, line) ((uint64_t)(number) * 65536 + (line))
@@ -39,7 +40,7 @@ void check_text(const struct sample *s, const uint8_t *text);
 
 /* ---- texts.c */
 
-#define TEXT_ROOM 20000 /* over the limit of 16,384, so that longer texts can be refused */
+#define TEXT_ROOM (TEXT_BYTES + 4096) /* over the limit, so that longer texts can be refused */
 
 /* A book or a listing as it is put together. */
 struct text {
@@ -60,11 +61,28 @@ struct text *book_of(const char *rules); /* as the specification writes its samp
 void head_line(struct text *listing, unsigned names, unsigned held, unsigned folds, unsigned rounds);
 const char *shown(struct text *listing); /* a listing put together, as a string */
 
-/* the book that the specification prints, and its listing for 8 folds */
-#define PRINTED "p:q/q:p r/q:s/s:"
-#define PRINTED_8 "DPL 0001 names=4 held=3 folds=8 rounds=4\np\nq\ns\n"
+#define LONG_NAME "n123456789.123456789_123456789-1" /* as long as a name may be */
+_Static_assert(sizeof LONG_NAME - 1 == NAME_BYTES, "a long name");
 
-#define LONG_NAME "n123456789.123456789_123456789-1" /* 32 bytes */
+/*
+ * How many heads fit into the atoms: those of two rules in a row, each over the
+ * one before, after one fact, and how many facts more then fit; those of two
+ * rules with a name between each two, and how long their names can be.
+ */
+#define IN_A_ROW ((ATOMS - 1) / 3)
+#define MORE_FACTS (ATOMS - 1 - 3 * IN_A_ROW)
+#define WITH_NAMES (ATOMS / 4)
+#define LONG_BYTES ((TEXT_BYTES - MARK_BYTES) / (6 * WITH_NAMES) - 1 < NAME_BYTES ? (TEXT_BYTES - MARK_BYTES) / (6 * WITH_NAMES) - 1 : NAME_BYTES)
+
+/* such a name: a letter and a number with zeros before it; and the listing of all of them */
+#define LONG(letter) letter "%0*u"
+#define DIGITS (LONG_BYTES - 1)
+#define LONG_LISTING (LONGEST_LISTING - NAMES * (NAME_BYTES - LONG_BYTES))
+
+/* their rounds: with names between, folds skip one round a head */
+#define ROUNDS_IN_A_ROW (2 * IN_A_ROW + 2)
+#define ROUNDS_UNFOLDED (3 * WITH_NAMES + 1)
+#define ROUNDS_FOLDED (2 * WITH_NAMES + 2)
 
 /* books at the limits */
 void facts(struct text *t, unsigned from, unsigned to);

@@ -15,21 +15,21 @@ static void nulls(void)
 {
     struct text *t = book_of(PRINTED), *none = empty();
     uint8_t *listing = block(DPB_LISTING_BYTES);
-    struct sample s = sample("text NULL, 0", none, 8);
+    struct sample s = sample("text NULL, 0", none, FOLDS);
 
-    s.want = REFUSED(3, 0);
+    s.want = REFUSED(REFUSED_MARK, 0);
     run(&s, NULL, listing, 0);
-    s.label = "text NULL, 0 and 9 folds";
-    s.folds = 9;
-    s.want = REFUSED(9, 0);
+    s.label = "text NULL, 0 and one fold too many";
+    s.folds = FOLDS + 1;
+    s.want = REFUSED(REFUSED_FOLDS, 0);
     run(&s, NULL, listing, 0);
-    s = sample("listing NULL, 0", t, 8);
+    s = sample("listing NULL, 0", t, FOLDS);
     s.room = 0;
-    s.want = REFUSED(1, 0);
+    s.want = REFUSED(REFUSED_SHORT_AREA, 0);
     run(&s, s.text, NULL, 0);
     s = sample("text NULL, 0 and listing NULL, 0", none, 8);
     s.room = 0;
-    s.want = REFUSED(1, 0);
+    s.want = REFUSED(REFUSED_SHORT_AREA, 0);
     run(&s, NULL, NULL, 0);
     free(listing);
 }
@@ -48,11 +48,11 @@ static void skews(void)
 static void fresh_area(void)
 {
     struct text *t = book_of(PRINTED);
-    struct sample s = sample("listing area never written", t, 8);
+    struct sample s = sample("listing area never written", t, FOLDS);
     uint8_t *listing = block(DPB_LISTING_BYTES);
     uint64_t came = 0;
 
-    s.listing = PRINTED_8;
+    s.listing = PRINTED_FOLDS;
     if (answered(&s, s.text, listing, &came)) {
         check_result(&s, came);
         check_area(&s, listing, 0);
@@ -64,29 +64,33 @@ static void fresh_area(void)
 
 #define OVER_32 ((size_t)1 << 32)
 #define OVER_63 ((size_t)1 << 63)
+#define LONG_TEXT REFUSED(REFUSED_LONG_TEXT, 0)
+#define MANY_FOLDS REFUSED(REFUSED_FOLDS, 0)
+#define SHORT_AREA REFUSED(REFUSED_SHORT_AREA, 0)
 
 /*
- * 1, 2 and 9 are returned without a look at the text: here it cannot be read.
+ * Areas, lengths and folds are judged without a look at the text: here it cannot be read.
  * Some of the lengths are over the limit only as long as no bit of them is lost.
  */
 static void unread(void)
 {
     static const struct sample samples[] = {
-        {"unread text of 16,385 bytes", NULL, 16385, 8, 4608, REFUSED(2, 0), ""},
-        {"unread text of 2^16 + 9 bytes", NULL, 65536 + 9, 8, 4608, REFUSED(2, 0), ""},
-        {"unread text of 2^32 bytes", NULL, OVER_32, 8, 4608, REFUSED(2, 0), ""},
-        {"unread text of 2^32 + 9 bytes", NULL, OVER_32 + 9, 8, 4608, REFUSED(2, 0), ""},
-        {"unread text of 2^63 + 9 bytes", NULL, OVER_63 + 9, 8, 4608, REFUSED(2, 0), ""},
-        {"unread text of 2^64 - 1 bytes", NULL, SIZE_MAX, 8, 4608, REFUSED(2, 0), ""},
-        {"unread text of 2^32 + 9 bytes, 9 folds", NULL, OVER_32 + 9, 9, 4608, REFUSED(2, 0), ""},
-        {"unread text of one byte, 9 folds", NULL, 1, 9, 4608, REFUSED(9, 0), ""},
-        {"unread text of 9 bytes, 9 folds", NULL, 9, 9, 4608, REFUSED(9, 0), ""},
-        {"unread text of 16,384 bytes, 9 folds", NULL, 16384, 9, 4608, REFUSED(9, 0), ""},
-        {"unread text of 9 bytes, 2^32 folds", NULL, 9, OVER_32, 4608, REFUSED(9, 0), ""},
-        {"unread text of 9 bytes, no listing area", NULL, 9, 8, 0, REFUSED(1, 0), ""},
-        {"unread text of 9 bytes, listing area of one byte", NULL, 9, 8, 1, REFUSED(1, 0), ""},
-        {"unread text of 9 bytes, listing area of 4,607", NULL, 9, 8, 4607, REFUSED(1, 0), ""},
-        {"unread text of 2^32 + 9 bytes, listing area of 4,607, 9 folds", NULL, OVER_32 + 9, 9, 4607, REFUSED(1, 0), ""},
+        {"unread text, one byte too long", NULL, TEXT_BYTES + 1, FOLDS, LISTING_BYTES, LONG_TEXT, ""},
+        {"unread text of 2^16 bytes and a mark's", NULL, 65536 + MARK_BYTES, FOLDS, LISTING_BYTES, LONG_TEXT, ""},
+        {"unread text of 2^32 bytes", NULL, OVER_32, FOLDS, LISTING_BYTES, LONG_TEXT, ""},
+        {"unread text of 2^32 bytes and a mark's", NULL, OVER_32 + MARK_BYTES, FOLDS, LISTING_BYTES, LONG_TEXT, ""},
+        {"unread text of 2^63 bytes and a mark's", NULL, OVER_63 + MARK_BYTES, FOLDS, LISTING_BYTES, LONG_TEXT, ""},
+        {"unread text of 2^64 - 1 bytes", NULL, SIZE_MAX, FOLDS, LISTING_BYTES, LONG_TEXT, ""},
+        {"unread text of 2^32 bytes and a mark's, one fold too many", NULL, OVER_32 + MARK_BYTES, FOLDS + 1, LISTING_BYTES, LONG_TEXT, ""},
+        {"unread text of one byte, one fold too many", NULL, 1, FOLDS + 1, LISTING_BYTES, MANY_FOLDS, ""},
+        {"unread text of a mark's bytes, one fold too many", NULL, MARK_BYTES, FOLDS + 1, LISTING_BYTES, MANY_FOLDS, ""},
+        {"unread text as long as can be, one fold too many", NULL, TEXT_BYTES, FOLDS + 1, LISTING_BYTES, MANY_FOLDS, ""},
+        {"unread text of a mark's bytes, 2^32 folds", NULL, MARK_BYTES, OVER_32, LISTING_BYTES, MANY_FOLDS, ""},
+        {"unread text of a mark's bytes, no listing area", NULL, MARK_BYTES, FOLDS, 0, SHORT_AREA, ""},
+        {"unread text of a mark's bytes, listing area of one byte", NULL, MARK_BYTES, FOLDS, 1, SHORT_AREA, ""},
+        {"unread text of a mark's bytes, listing area one byte short", NULL, MARK_BYTES, FOLDS, LISTING_BYTES - 1, SHORT_AREA, ""},
+        {"unread text of 2^32 bytes and a mark's, area one byte short, one fold too many", NULL, OVER_32 + MARK_BYTES, FOLDS + 1,
+         LISTING_BYTES - 1, SHORT_AREA, ""},
     };
     uint8_t *text = pages(TEXT_ROOM, PROT_NONE);
     uint8_t *listing = block(DPB_LISTING_BYTES);
@@ -117,13 +121,13 @@ static size_t used(uint8_t *area, size_t len)
 static void large_area(void)
 {
     uint8_t *listing = pages(OVER_32, PROT_READ | PROT_WRITE);
-    struct sample s = sample("listing area of 2^32 bytes", book_of(PRINTED), 8), seen = s;
+    struct sample s = sample("listing area of 2^32 bytes", book_of(PRINTED), FOLDS), seen = s;
     uint64_t came = 0;
 
     madvise(listing, OVER_32, MADV_NOHUGEPAGE); /* refused where the system has none */
     s.room = OVER_32;
     seen.room = 2 * (size_t)sysconf(_SC_PAGESIZE);
-    seen.listing = PRINTED_8;
+    seen.listing = PRINTED_FOLDS;
     fill(listing, seen.room, 0x5A);
     if (answered(&s, s.text, listing, &came)) {
         size_t more = used(listing + seen.room, s.room - seen.room);
@@ -197,14 +201,15 @@ static void share(void)
     texts[5] = *marked();
     long_names(&texts[5]);
     for (size_t i = 0; i < COUNT(shared); i++)
-        shared[i] = sample("on several threads", &texts[i], 8);
-    shared[0].listing = PRINTED_8;
+        shared[i] = sample("on several threads", &texts[i], FOLDS);
+    shared[0].listing = PRINTED_FOLDS;
     shared[1].folds = 0;
     shared[1].listing = "DPL 0001 names=4 held=4 folds=0 rounds=4\nd\nc\nb\na\n";
-    shared[2].want = REFUSED(5, 6);
-    shared[3].want = REFUSED(8, 0);
+    shared[2].want = REFUSED(REFUSED_LINE, 6);
+    shared[3].want = REFUSED(REFUSED_ATOMS, 0);
+    shared[4].folds = 8;
     shared[4].listing = "DPL 0001 names=3 held=1 folds=8 rounds=1\ny\n";
-    shared[5].listing = long_listing(8, 130);
+    shared[5].listing = long_listing(FOLDS, ROUNDS_FOLDED);
 }
 
 static void threads(void)

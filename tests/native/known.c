@@ -6,19 +6,23 @@
 
 /* ---- the header */
 
-/* Each figure of the header, typed once more from the specification. */
-_Static_assert(DPB_TEXT_BYTES == 16384 && DPB_LISTING_BYTES == 4608, "areas");
-_Static_assert(DPB_NAMES == 128 && DPB_NAME_BYTES == 32, "names");
-_Static_assert(DPB_RULES == 256 && DPB_ATOMS == 256 && DPB_FOLDS == 8, "rules, atoms, folds");
-_Static_assert(DPB_LISTED == 0 && DPB_REFUSED_SHORT_AREA == 1 && DPB_REFUSED_LONG_TEXT == 2, "0 to 2");
-_Static_assert(DPB_REFUSED_MARK == 3 && DPB_REFUSED_NO_LINE_END == 4 && DPB_REFUSED_LINE == 5, "3 to 5");
-_Static_assert(DPB_REFUSED_NAMES == 6 && DPB_REFUSED_RULES == 7, "6 and 7");
-_Static_assert(DPB_REFUSED_ATOMS == 8 && DPB_REFUSED_FOLDS == 9, "8 and 9");
+/* Each figure of the header is that of the specification, as figures.h has it. */
+_Static_assert(DPB_TEXT_BYTES == TEXT_BYTES && DPB_LISTING_BYTES == LISTING_BYTES, "areas");
+_Static_assert(DPB_NAMES == NAMES && DPB_NAME_BYTES == NAME_BYTES, "names");
+_Static_assert(DPB_RULES == RULES && DPB_ATOMS == ATOMS && DPB_FOLDS == FOLDS, "rules, atoms, folds");
+_Static_assert(DPB_LISTED == 0, "no refusal");
+_Static_assert(DPB_REFUSED_SHORT_AREA == REFUSED_SHORT_AREA && DPB_REFUSED_LONG_TEXT == REFUSED_LONG_TEXT, "areas");
+_Static_assert(DPB_REFUSED_MARK == REFUSED_MARK && DPB_REFUSED_NO_LINE_END == REFUSED_LAST_BYTE, "the text's ends");
+_Static_assert(DPB_REFUSED_LINE == REFUSED_LINE && DPB_REFUSED_NAMES == REFUSED_NAMES && DPB_REFUSED_RULES == REFUSED_RULES, "lines");
+_Static_assert(DPB_REFUSED_ATOMS == REFUSED_ATOMS && DPB_REFUSED_FOLDS == REFUSED_FOLDS, "atoms, folds");
 
 /* The header's two functions. */
 static void taking_apart(void)
 {
-    static const unsigned parts[][2] = {{0, 0}, {1, 0}, {5, 3}, {6, 16375}, {7, 258}, {9, 0}, {5, 65535}};
+    static const unsigned parts[][2] = {
+        {0, 0}, {REFUSED_SHORT_AREA, 0}, {REFUSED_LINE, 3}, {REFUSED_NAMES, LAST_LINE}, {REFUSED_RULES, RULES + 2}, {REFUSED_FOLDS, 0},
+        {REFUSED_LINE, 65535},
+    };
 
     for (size_t i = 0; i < COUNT(parts); i++) {
         uint64_t result = REFUSED(parts[i][0], parts[i][1]);
@@ -52,9 +56,9 @@ static const struct known starred[] = {
     {"d:c/c:b/b:a/a:", 1, "DPL 0001 names=4 held=4 folds=1 rounds=3\nd\nc\nb\na\n"},
     {"d:c/c:b/b:a/a:", 2, "DPL 0001 names=4 held=4 folds=2 rounds=2\nd\nc\nb\na\n"},
     {"p:q/q:p r/r:s/s:", 0, "DPL 0001 names=4 held=2 folds=0 rounds=2\nr\ns\n"},
-    {PRINTED, 0, "DPL 0001 names=4 held=3 folds=0 rounds=4\np\nq\ns\n"},
-    {PRINTED, 1, "DPL 0001 names=4 held=3 folds=1 rounds=4\np\nq\ns\n"},
-    {PRINTED, 8, PRINTED_8},
+    {PRINTED, 0, PRINTED_0},
+    {PRINTED, 1, PRINTED_1},
+    {PRINTED, FOLDS, PRINTED_FOLDS},
     /* the rounds of this one follow from the definitions; the specification gives its rows */
     {"p:q s t/q:p t/s:t/t:", 0, "DPL 0001 names=4 held=2 folds=0 rounds=2\ns\nt\n"},
     {"p:q s t/q:p t/s:t/t:", 1, "DPL 0001 names=4 held=2 folds=1 rounds=2\ns\nt\n"},
@@ -113,7 +117,7 @@ void book_in_file(const char *book, const char *listing)
 
     read_file(book, &text);
     read_file(listing, &want);
-    check(want.len <= DPB_LISTING_BYTES && !memchr(want.bytes, 0, want.len), listing,
+    check(want.len <= LONGEST_LISTING && !memchr(want.bytes, 0, want.len), listing,
           "expected a listing, came %zu bytes", want.len);
-    listed(book, &text, 8, shown(&want));
+    listed(book, &text, FOLDS, shown(&want));
 }

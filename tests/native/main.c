@@ -1,6 +1,6 @@
 /*
  * The header against the archive: what dpb_list answers, and every byte that
- * it leaves. Arguments are pairs of files, a book and its listing for 8 folds.
+ * it leaves. Arguments are pairs of files, a book and its listing, with as many folds as are allowed.
  */
 #include "calls.h"
 

@@ -7,25 +7,25 @@ static void marks(void)
 {
     struct text *t;
 
-    for (size_t len = 0; len < 9; len++) {
+    for (size_t len = 0; len < MARK_BYTES; len++) {
         t = marked();
         t->len = len;
-        refused("mark cut short", t, 8, 3, 0);
+        refused("mark cut short", t, 8, REFUSED_MARK, 0);
     }
-    for (size_t at = 0; at < 9; at++) {
+    for (size_t at = 0; at < MARK_BYTES; at++) {
         t = book_of("a:");
         t->bytes[at] ^= 0x20;
-        refused("mark with another byte", t, 8, 3, 0);
+        refused("mark with another byte", t, 8, REFUSED_MARK, 0);
         t = marked();
         t->bytes[at]++;
-        refused("mark with another byte, alone", t, 8, 3, 0);
+        refused("mark with another byte, alone", t, 8, REFUSED_MARK, 0);
     }
     t = empty();
     add(t, "DPB 0001\r\na:\n");
-    refused("carriage return in the mark", t, 8, 3, 0);
+    refused("carriage return in the mark", t, 8, REFUSED_MARK, 0);
     t = empty();
     add(t, "\xEF\xBB\xBF" "DPB 0001\na:\n");
-    refused("byte order mark", t, 8, 3, 0);
+    refused("byte order mark", t, 8, REFUSED_MARK, 0);
 }
 
 static void line_ends(void)
@@ -34,16 +34,16 @@ static void line_ends(void)
 
     t = marked();
     add(t, "a:");
-    refused("last line without an end", t, 8, 4, 0);
+    refused("last line without an end", t, 8, REFUSED_LAST_BYTE, 0);
     t = marked();
     add(t, " ");
-    refused("last line a blank without an end", t, 8, 4, 0);
+    refused("last line a blank without an end", t, 8, REFUSED_LAST_BYTE, 0);
     t = marked();
     add(t, "#");
-    refused("last line a remark without an end", t, 8, 4, 0);
+    refused("last line a remark without an end", t, 8, REFUSED_LAST_BYTE, 0);
     t = marked();
     add_bytes(t, "a:\n", 4);
-    refused("zero byte after the last line", t, 8, 4, 0);
+    refused("zero byte after the last line", t, 8, REFUSED_LAST_BYTE, 0);
 }
 
 static void bad_lines(void)
@@ -60,70 +60,71 @@ static void bad_lines(void)
 
     for (size_t i = 0; i < COUNT(bad); i++) {
         snprintf(label, sizeof label, "bad line in '%s'", bad[i].rules);
-        refused(label, book_of(bad[i].rules), 8, 5, bad[i].line);
+        refused(label, book_of(bad[i].rules), 8, REFUSED_LINE, bad[i].line);
     }
 }
 
-/* The order of causes: 1, 2, 9, 3, 4, the lines downward (5, then 7, then 6), 8. */
+/* The order of causes: the area, the length, the folds, the mark, the last byte, the lines downward (form, rules, names), atoms. */
 static void order(void)
 {
     struct text *t = empty();
 
-    add_times(t, 16385, "x");
-    refused_room("1 before 2, 9, 3, 4", t, 9, 4607);
-    refused("2 before 9, 3, 4", t, 9, 2, 0);
-    t->len = 16384;
-    refused_room("1 before 9, 3, 4", t, 9, 4607);
-    refused("9 before 3, 4", t, 9, 9, 0);
-    refused("3 before 4", t, 8, 3, 0);
+    add_times(t, TEXT_BYTES + 1, "x");
+    refused_room("a short area before length, folds, mark, last byte", t, FOLDS + 1, LISTING_BYTES - 1);
+    refused("length before folds, mark, last byte", t, FOLDS + 1, REFUSED_LONG_TEXT, 0);
+    t->len = TEXT_BYTES;
+    refused_room("a short area before folds, mark, last byte", t, FOLDS + 1, LISTING_BYTES - 1);
+    refused("folds before mark, last byte", t, FOLDS + 1, REFUSED_FOLDS, 0);
+    refused("mark before last byte", t, 8, REFUSED_MARK, 0);
     t = marked();
     add(t, "a\na");
-    refused("9 before 4, 5", t, 9, 9, 0);
-    refused("4 before 5", t, 8, 4, 0);
+    refused("folds before last byte, line", t, FOLDS + 1, REFUSED_FOLDS, 0);
+    refused("last byte before line", t, 8, REFUSED_LAST_BYTE, 0);
     t = book_of("a");
-    refused_room("1 before 5", t, 8, 4607);
-    refused("9 before 5", t, 9, 9, 0);
+    refused_room("a short area before line", t, 8, LISTING_BYTES - 1);
+    refused("folds before line", t, FOLDS + 1, REFUSED_FOLDS, 0);
     t = empty();
-    refused("9 before 3 on an empty text", t, 9, 9, 0);
-    refused("empty text", t, 8, 3, 0);
+    refused("folds before mark on an empty text", t, FOLDS + 1, REFUSED_FOLDS, 0);
+    refused("empty text", t, 8, REFUSED_MARK, 0);
 }
 
+/* The mark is line 1: rule i, from 1, is in line i + 1. */
 static void order_of_lines(void)
 {
     struct text *t;
 
     t = marked();
-    facts(t, 0, 128);
+    facts(t, 0, NAMES);
     add(t, "over: n1 n2 :\n");
-    refused("5 before 6 in one line", t, 8, 5, 130);
+    refused("form before names in one line", t, 8, REFUSED_LINE, NAMES + 2);
     t = marked();
-    facts(t, 0, 128);
+    facts(t, 0, NAMES);
     add(t, "over:\nbad\n");
-    refused("6 in a line above 5", t, 8, 6, 130);
+    refused("names in a line above a bad form", t, 8, REFUSED_NAMES, NAMES + 2);
 
     t = marked();
-    add_times(t, 256, "a:\n");
+    add_times(t, RULES, "a:\n");
     add(t, "a:;\n");
-    refused("5 before 7 in one line", t, 8, 5, 258);
+    refused("form before rules in one line", t, 8, REFUSED_LINE, RULES + 2);
     t = marked();
-    add_times(t, 256, "a:\n");
+    add_times(t, RULES, "a:\n");
     add(t, "a:\n;\n");
-    refused("7 in a line above 5", t, 8, 7, 258);
+    refused("rules in a line above a bad form", t, 8, REFUSED_RULES, RULES + 2);
     t = marked();
-    add_times(t, 255, "a:\n");
+    add_times(t, RULES - 1, "a:\n");
     add(t, "a:\n;\n");
-    refused("5 before 8", t, 8, 5, 258);
+    refused("form before atoms", t, 8, REFUSED_LINE, RULES + 2);
 
     t = marked();
-    facts(t, 0, 128);
-    add_times(t, 128, "n0:\n");
+    facts(t, 0, NAMES);
+    add_times(t, RULES - NAMES, "n0:\n");
     add(t, "over: more\n");
-    refused("7 before 6 in one line", t, 8, 7, 258);
+    refused("rules before names in one line", t, 8, REFUSED_RULES, RULES + 2);
     t = marked();
-    facts(t, 0, 128);
-    add_times(t, 127, "n0:\n");
+    facts(t, 0, NAMES);
+    add_times(t, RULES - NAMES - 1, "n0:\n");
     add(t, "over: more\nn0:\n");
-    refused("6 in a line above 7", t, 8, 6, 257);
+    refused("names in a line above rules", t, 8, REFUSED_NAMES, RULES + 1);
 }
 
 /* ---- each byte value, in three places of a line */
@@ -152,7 +153,7 @@ static void byte_in_a_name(unsigned byte)
         snprintf(want, sizeof want, "DPL 0001 names=1 held=1 folds=8 rounds=1\nk%cm\n", small(byte));
         listed(label, t, 8, want);
     } else {
-        refused(label, t, 8, 5, 2);
+        refused(label, t, 8, REFUSED_LINE, 2);
     }
 }
 
@@ -170,7 +171,7 @@ static void byte_in_a_body(unsigned byte)
     else if (byte == ' ' || byte == '\t' || byte == '\n')
         listed(label, t, 8, "DPL 0001 names=1 held=1 folds=8 rounds=1\nlone\n");
     else
-        refused(label, t, 8, 5, 2);
+        refused(label, t, 8, REFUSED_LINE, 2);
 }
 
 static void byte_as_a_line(unsigned byte)
@@ -184,7 +185,7 @@ static void byte_as_a_line(unsigned byte)
     if (byte == '#' || byte == ' ' || byte == '\t' || byte == '\n')
         listed(label, t, 8, "DPL 0001 names=0 held=0 folds=8 rounds=1\n");
     else
-        refused(label, t, 8, 5, 2);
+        refused(label, t, 8, REFUSED_LINE, 2);
 }
 
 static void byte_values(void)

@@ -115,26 +115,27 @@ size_t stack(void)
     struct sample s;
 
     long_names(t);
-    s = sample("128 names of 32 bytes on a small stack", t, 8);
-    s.listing = long_listing(8, 130);
+    s = sample("all names, long ones, on a small stack", t, FOLDS);
+    s.listing = long_listing(FOLDS, ROUNDS_FOLDED);
     on_small_stack(&k, &s);
-    add(t, "h%031u:\n", 0);
-    s = sample("refusal 8 on a small stack", t, 8);
-    s.want = REFUSED(8, 0);
+    add(t, LONG("h") ":\n", DIGITS, 0);
+    s = sample("one atom too many on a small stack", t, FOLDS);
+    s.want = REFUSED(REFUSED_ATOMS, 0);
     on_small_stack(&k, &s);
     add(t, "oops\n");
-    s = sample("refusal 5 on a small stack", t, 8);
-    s.want = REFUSED(5, 195);
+    /* the mark, three rules a head, the one above, and this line */
+    s = sample("a line at fault on a small stack", t, FOLDS);
+    s.want = REFUSED(REFUSED_LINE, 3 * WITH_NAMES + 3);
     on_small_stack(&k, &s);
     t = marked();
-    add_times(t, 8187, "#\n");
-    add(t, "\n");
-    s = sample("16,384 bytes of remarks on a small stack", t, 0);
+    add_times(t, (TEXT_BYTES - MARK_BYTES) / 2, "#\n");
+    add_times(t, (TEXT_BYTES - MARK_BYTES) % 2, "\n");
+    s = sample("a text of remarks, as long as can be, on a small stack", t, 0);
     s.listing = "DPL 0001 names=0 held=0 folds=0 rounds=1\n";
     on_small_stack(&k, &s);
     t = book_of(PRINTED);
-    s = sample("9 folds on a small stack", t, 9);
-    s.want = REFUSED(9, 0);
+    s = sample("one fold too many on a small stack", t, FOLDS + 1);
+    s.want = REFUSED(REFUSED_FOLDS, 0);
     on_small_stack(&k, &s);
 
     check(stack_used <= DPB_STACK_BYTES, "stack", "expected at most %d bytes, came %zu", DPB_STACK_BYTES, stack_used);

@@ -59,7 +59,7 @@ struct text *marked(void)
 {
     struct text *t = empty();
 
-    add(t, "DPB 0001\n");
+    add(t, MARK);
     return t;
 }
 
@@ -76,7 +76,7 @@ struct text *book_of(const char *rules)
 
 void head_line(struct text *listing, unsigned names, unsigned held, unsigned folds, unsigned rounds)
 {
-    add(listing, "DPL 0001 names=%u held=%u folds=%u rounds=%u\n", names, held, folds, rounds);
+    add(listing, LISTED " names=%u held=%u folds=%u rounds=%u\n", names, held, folds, rounds);
 }
 
 const char *shown(struct text *listing)
@@ -93,29 +93,31 @@ void facts(struct text *t, unsigned from, unsigned to)
         add(t, "n%u:\n", i);
 }
 
-/* f, then 85 heads of two rules, each over the one before and over itself. */
+/* f, then heads of two rules, each over the one before and over itself, then facts up to the last atom. */
 void chained_heads(struct text *t)
 {
     add(t, "f:\n");
-    for (unsigned i = 1; i <= 85; i++) {
+    for (unsigned i = 1; i <= IN_A_ROW; i++) {
         if (i == 1)
             add(t, "h1:f\n");
         else
             add(t, "h%u:h%u\n", i, i - 1);
         add(t, "h%u:h%u\n", i, i);
     }
+    for (int i = 0; i < MORE_FACTS; i++)
+        add(t, "more%d:\n", i);
 }
 
-/* 64 heads of two rules and 64 names between them, all of 32 bytes. */
+/* Heads of two rules and as many names between them, all of them long. */
 void long_names(struct text *t)
 {
-    for (unsigned i = 0; i < 64; i++) {
+    for (unsigned i = 0; i < WITH_NAMES; i++) {
         if (i == 0)
-            add(t, "u%031u:\n", i);
+            add(t, LONG("u") ":\n", DIGITS, i);
         else
-            add(t, "u%031u:h%031u\n", i, i - 1);
-        add(t, "h%031u:u%031u\n", i, i);
-        add(t, "h%031u:h%031u\n", i, i);
+            add(t, LONG("u") ":" LONG("h") "\n", DIGITS, i, DIGITS, i - 1);
+        add(t, LONG("h") ":" LONG("u") "\n", DIGITS, i, DIGITS, i);
+        add(t, LONG("h") ":" LONG("h") "\n", DIGITS, i, DIGITS, i);
     }
 }
 
@@ -124,8 +126,8 @@ const char *long_listing(unsigned folds, unsigned rounds)
     static struct text want;
 
     want.len = 0;
-    head_line(&want, 128, 128, folds, rounds);
-    for (unsigned i = 0; i < 64; i++)
-        add(&want, "u%031u\nh%031u\n", i, i);
+    head_line(&want, 2 * WITH_NAMES, 2 * WITH_NAMES, folds, rounds);
+    for (unsigned i = 0; i < WITH_NAMES; i++)
+        add(&want, LONG("u") "\n" LONG("h") "\n", DIGITS, i, DIGITS, i);
     return shown(&want);
 }

@@ -1,7 +1,7 @@
 //! Random books: first which rules there are, then how they are spelled, then what is damaged.
 
 use crate::damage;
-use crate::engine::{ATOMS, MARK, NAME, NAMES, RULES, TEXT};
+use crate::figures::{ATOMS, MARK, NAMES, NAME_BYTES, RULES, TEXT_BYTES};
 use crate::naming::{self, Spelling};
 use crate::random::Random;
 
@@ -220,7 +220,7 @@ fn at_a_limit(r: &mut Random) -> Vec<u8> {
     let spelling = r.pick(&[Spelling::Letters, Spelling::Letters, Spelling::Letters, Spelling::Drawn, Spelling::Drawn, Spelling::Long]);
     let mut text = spell_as(&draft, spelling, r);
     if which == 4 {
-        damage::respell(&mut text, NAME + r.below(2), r);
+        damage::respell(&mut text, NAME_BYTES + r.below(2), r);
     }
     if which == 7 && r.one_in(3) {
         text.pop();
@@ -309,9 +309,9 @@ fn sized(r: &mut Random) -> Vec<u8> {
     };
     let length = match r.below(20) {
         0 => 65_536 + r.between(0, 200),
-        1 => TEXT + r.between(2, 4_000),
-        2..=10 => TEXT + 1,
-        _ => TEXT,
+        1 => TEXT_BYTES + r.between(2, 4_000),
+        2..=10 => TEXT_BYTES + 1,
+        _ => TEXT_BYTES,
     };
     damage::pad(&mut text, length, r);
     text
@@ -321,10 +321,10 @@ fn sized(r: &mut Random) -> Vec<u8> {
 fn odd_length(r: &mut Random) -> Vec<u8> {
     let mut text = MARK.to_vec();
     match r.below(6) {
-        0 => text.truncate(r.below(10)),
-        1 => text.insert(r.below(10), b'\n'),
+        0 => text.truncate(r.below(MARK.len() + 1)),
+        1 => text.insert(r.below(MARK.len() + 1), b'\n'),
         2 => text = (0..r.below(20)).map(|_| r.byte()).collect(),
-        3 => text[r.below(9)] ^= 1 << r.below(8),
+        3 => text[r.below(MARK.len())] ^= 1 << r.below(8),
         4 => text.extend_from_slice(MARK),
         _ => text.extend(vec![b'\n'; r.below(40)]),
     }

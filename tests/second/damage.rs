@@ -1,6 +1,7 @@
 //! Damage to a text, and padding it to a length.
 
-use crate::engine::{name_byte, MARK, NAME};
+use crate::engine::name_byte;
+use crate::figures::{MARK, NAME_BYTES};
 use crate::random::Random;
 
 /// One wound of any sort. It may miss, and it may leave a good book.
@@ -17,7 +18,7 @@ pub fn hurt(text: &mut Vec<u8>, r: &mut Random) {
         7 => drop(text.pop()),
         8 => carriage_returns(text, r),
         9 => insert_at(text, b':', b":", r),
-        10 => respell(text, NAME + r.below(2), r),
+        10 => respell(text, NAME_BYTES + r.below(2), r),
         11 => insert_at(text, b'\n', b" #", r),
         12 => insert_at(text, b'\n', b"#", r),
         13 => insert_at(text, b'\n', b"\t", r),

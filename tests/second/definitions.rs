@@ -1,7 +1,8 @@
 //! The second engine against the definitions, on books that are small enough for them.
 
 use crate::books;
-use crate::engine::{held, Judged, System, FOLDS};
+use crate::engine::{held, Judged, System};
+use crate::figures::FOLDS;
 use crate::harness::{Difference, Harness, Lent};
 use crate::literal;
 use crate::random::Random;
@@ -48,5 +49,5 @@ pub fn run(harness: &mut Harness, seed: u64) -> Result<String, Difference> {
         folded += usize::from(judged.system.is_some() && judged.atoms <= FEW_ATOMS);
     }
     let line = format!("the second engine holds the names in every model ({tried} books)");
-    Ok(format!("{line} and counts rounds as over folded rows ({folded} books, folds 0 to 8)"))
+    Ok(format!("{line} and counts rounds as over folded rows ({folded} books, folds 0 to {FOLDS})"))
 }

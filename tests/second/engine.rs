@@ -6,14 +6,7 @@
 
 use std::collections::HashMap;
 
-pub const MARK: &[u8] = b"DPB 0001\n";
-pub const TEXT: usize = 16_384;
-pub const NAMES: usize = 128;
-pub const NAME: usize = 32;
-pub const RULES: usize = 256;
-pub const ATOMS: usize = 256;
-pub const FOLDS: u64 = 8;
-pub const LISTING: usize = 4_608;
+use crate::figures::{refusal, ATOMS, FOLDS, LISTED, LISTING_BYTES, MARK, NAMES, NAME_BYTES, RULES, TEXT_BYTES};
 
 #[derive(Clone, Copy, PartialEq, Eq, Debug)]
 pub struct Refusal {
@@ -59,7 +52,7 @@ pub fn name_byte(byte: u8) -> bool {
 }
 
 fn is_name(run: &[u8]) -> bool {
-    !run.is_empty() && run.len() <= NAME && run.iter().all(|&b| name_byte(b))
+    !run.is_empty() && run.len() <= NAME_BYTES && run.iter().all(|&b| name_byte(b))
 }
 
 fn runs(part: &[u8]) -> Vec<&[u8]> {
@@ -91,7 +84,7 @@ struct Reader {
 }
 
 impl Reader {
-    /// The number of a name, by its first appearance; none for the 129th.
+    /// The number of a name, by its first appearance; none for one past the limit.
     fn number(&mut self, spelled: &[u8]) -> Option<usize> {
         let name = spelled.to_ascii_lowercase();
         if let Some(&number) = self.numbers.get(&name) {
@@ -109,16 +102,16 @@ impl Reader {
     /// Takes one line in, or says which number refuses it: first its form, then the rule, then its names from left to right.
     fn take(&mut self, line: &[u8]) -> Result<(), u64> {
         let names = match form(line) {
-            None => return Err(5),
+            None => return Err(refusal::LINE),
             Some(Line::Nothing) => return Ok(()),
             Some(Line::Rule(names)) => names,
         };
         if self.book.rules.len() == RULES {
-            return Err(7);
+            return Err(refusal::RULES);
         }
         let mut numbers = Vec::with_capacity(names.len());
         for name in names {
-            numbers.push(self.number(name).ok_or(6u64)?);
+            numbers.push(self.number(name).ok_or(refusal::NAMES)?);
         }
         let head = numbers.remove(0);
         numbers.sort_unstable();
@@ -131,10 +124,10 @@ impl Reader {
 /// Reads a text whose length is within the limit.
 pub fn read(text: &[u8]) -> Result<Book, Refusal> {
     if !text.starts_with(MARK) {
-        return refused(3);
+        return refused(refusal::MARK);
     }
     if text[text.len() - 1] != b'\n' {
-        return refused(4);
+        return refused(refusal::LAST_BYTE);
     }
     let mut reader = Reader::default();
     let lines = text[..text.len() - 1].split(|&b| b == b'\n');
@@ -257,7 +250,7 @@ impl System {
         }
     }
 
-    /// The last set and the rounds, for 0 to 8 folds.
+    /// The last set and the rounds, for any number of folds that is allowed.
     ///
     /// Let A(v) be the atoms whose unfolded "all" row lies within v. A row folded k times is what 2^k steps through the rows reach,
     /// so it lies within v exactly where its atom is in A applied 2^k times to v. A row that is its atom alone keeps the atom
@@ -339,8 +332,8 @@ pub struct Answer {
 
 impl Judged {
     pub fn new(text: &[u8]) -> Judged {
-        let too_long = text.len() > TEXT;
-        let read = if too_long { refused(2) } else { read(text) };
+        let too_long = text.len() > TEXT_BYTES;
+        let read = if too_long { refused(refusal::LONG_TEXT) } else { read(text) };
         let mut judged = Judged { too_long, read, atoms: 0, system: None, held: Vec::new() };
         if let Ok(book) = &judged.read {
             judged.atoms = atoms(book);
@@ -352,20 +345,20 @@ impl Judged {
         judged
     }
 
-    /// The causes in their order: 1, 2, 9, then what the text itself is refused for.
+    /// The causes in their order: the area, the length, the folds, then what the text itself is refused for.
     pub fn answer(&self, folds: u64, area: usize) -> Answer {
-        if area < LISTING {
-            return no(1);
+        if area < LISTING_BYTES {
+            return no(refusal::SHORT_AREA);
         }
         if self.too_long {
-            return no(2);
+            return no(refusal::LONG_TEXT);
         }
         if folds > FOLDS {
-            return no(9);
+            return no(refusal::FOLDS);
         }
         match (&self.read, &self.system) {
             (Err(refusal), _) => Answer { said: Err(*refusal), doubt: None },
-            (Ok(_), None) => no(8),
+            (Ok(_), None) => no(refusal::ATOMS),
             (Ok(book), Some(system)) => self.solve(book, system, folds),
         }
     }
@@ -396,7 +389,7 @@ fn no(number: u64) -> Answer {
 fn listing(book: &Book, held: &[bool], folds: u64, rounds: usize) -> Vec<u8> {
     let count = held.iter().filter(|&&is| is).count();
     let names = book.names.len();
-    let mut text = format!("DPL 0001 names={names} held={count} folds={folds} rounds={rounds}\n").into_bytes();
+    let mut text = format!("{LISTED} names={names} held={count} folds={folds} rounds={rounds}\n").into_bytes();
     for (name, _) in book.names.iter().zip(held).filter(|(_, &is)| is) {
         text.extend_from_slice(name);
         text.push(b'\n');

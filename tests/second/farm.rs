@@ -2,7 +2,8 @@
 
 use crate::books;
 use crate::damage::with_carriage_returns;
-use crate::engine::{Judged, Refusal, MARK, TEXT};
+use crate::engine::{Judged, Refusal};
+use crate::figures::{refusal as number, ATOMS, FOLDS, LISTED, MARK, NAMES, TEXT_BYTES};
 use crate::harness::{show, Difference, Harness, Heard, Lent};
 use crate::known::book;
 use crate::random::Random;
@@ -45,20 +46,21 @@ pub fn hung_job(harness: &mut Harness, seed: u64) -> Result<String, Difference> 
     let mut farm = Farm { harness, random: Random::new(seed, 2 << 40) };
     let mut loops = 0;
     farm.waits(&book("p:q/q:p"), 2, "")?;
-    for length in 1..=128 {
+    for length in 1..=NAMES {
         farm.waits(&ring(length, "", &[]), length, "")?;
         loops += 1;
-        if length < 128 {
+        if length < NAMES {
             farm.waits(&ring(length, " f", &["f:"]), length + 1, "f\n")?;
             farm.waits(&ring(length, " gone", &[]), length + 1, "")?;
             loops += 2;
         }
-        if length <= 85 {
+        // each job has two rules, so two helpers
+        if length <= ATOMS / 3 {
             farm.waits(&two_way_ring(length), length, "")?;
             loops += 1;
         }
     }
-    Ok(format!("{loops} loops of 1 to 128 jobs, folds 0 to 8: each ends, no job of a loop is held"))
+    Ok(format!("{loops} loops of 1 to {NAMES} jobs, folds 0 to {FOLDS}: each ends, no job of a loop is held"))
 }
 
 /// Each job over the one before, the first over the last; the first has a further condition.
@@ -78,9 +80,9 @@ fn two_way_ring(length: usize) -> Vec<u8> {
 impl Farm<'_> {
     /// Nothing follows from what is there at the start, so the first round is the last.
     fn waits(&mut self, text: &[u8], names: usize, held: &str) -> Result<(), Difference> {
-        for folds in 0..=8 {
+        for folds in 0..=FOLDS {
             let count = held.lines().count();
-            let listing = format!("DPL 0001 names={names} held={count} folds={folds} rounds=1\n{held}");
+            let listing = format!("{LISTED} names={names} held={count} folds={folds} rounds=1\n{held}");
             self.expect(text, folds, &Ok(listing.into_bytes()), "the hung job")?;
         }
         Ok(())
@@ -95,7 +97,7 @@ pub fn pipe(harness: &mut Harness, seed: u64) -> Result<String, Difference> {
     let (mut cuts, good) = (0, 600);
     for _ in 0..good {
         let text = farm.good_book();
-        let folds = farm.random.below(9) as u64;
+        let folds = farm.random.below(FOLDS as usize + 1) as u64;
         farm.cut(&text, text.len() - 1, folds)?;
         farm.carriage_returns(&text, folds)?;
         if text.len() < 1_000 || farm.random.one_in(16) {
@@ -118,9 +120,9 @@ impl Farm<'_> {
     fn cut(&mut self, text: &[u8], length: usize, folds: u64) -> Result<(), Difference> {
         let part = &text[..length];
         if length < MARK.len() {
-            self.expect(part, folds, &refusal(3, 0), "the pipe")
+            self.expect(part, folds, &refusal(number::MARK, 0), "the pipe")
         } else if part[length - 1] != b'\n' {
-            self.expect(part, folds, &refusal(4, 0), "the pipe")
+            self.expect(part, folds, &refusal(number::LAST_BYTE, 0), "the pipe")
         } else {
             let (lent, heard) = self.ask(part, folds)?;
             if heard.is_ok() {
@@ -133,7 +135,7 @@ impl Farm<'_> {
     /// Before every line end, before every one but the mark's, and before a single one.
     fn carriage_returns(&mut self, text: &[u8], folds: u64) -> Result<(), Difference> {
         let all = with_carriage_returns(text);
-        let refused = if all.len() > TEXT { refusal(2, 0) } else { refusal(3, 0) };
+        let refused = if all.len() > TEXT_BYTES { refusal(number::LONG_TEXT, 0) } else { refusal(number::MARK, 0) };
         self.expect(&all, folds, &refused, "the pipe")?;
 
         let (_, whole) = self.ask(text, folds)?;
@@ -154,17 +156,17 @@ impl Farm<'_> {
 
 /// A remark takes any byte; every other line with a carriage return has no listed form.
 fn after_carriage_returns(text: &[u8], whole: Heard) -> Heard {
-    if text.len() > TEXT {
-        return refusal(2, 0);
+    if text.len() > TEXT_BYTES {
+        return refusal(number::LONG_TEXT, 0);
     }
     let lines = text.split(|&byte| byte == b'\n');
     let bad = lines.enumerate().find(|(_, line)| line.last() == Some(&b'\r') && line[0] != b'#');
-    bad.map_or(whole, |(before, _)| refusal(5, before as u64 + 1))
+    bad.map_or(whole, |(before, _)| refusal(number::LINE, before as u64 + 1))
 }
 
 // ---------------------------------------------------------------- the weekly schedule
 
-/// A schedule made without folds and one made with eight have the same jobs, also where a job waits for what no rule defines.
+/// A schedule made without folds and one made with as many as are allowed have the same jobs, also where a job waits for what no rule defines.
 pub fn weekly_schedule(harness: &mut Harness, seed: u64) -> Result<String, Difference> {
     let mut farm = Farm { harness, random: Random::new(seed, 4 << 40) };
     let (good, mut undefined) = (5_000, 0);
@@ -174,7 +176,7 @@ pub fn weekly_schedule(harness: &mut Harness, seed: u64) -> Result<String, Diffe
         undefined += usize::from(has_undefined(&text));
         farm.same_names(&text)?;
     }
-    let line = format!("{good} books, {undefined} with a name that no rule defines: the same names with no folds and with eight");
+    let line = format!("{good} books, {undefined} with a name that no rule defines: the same names with no folds and with {FOLDS}");
     if undefined > 0 {
         return Ok(line);
     }
@@ -192,7 +194,7 @@ fn has_undefined(text: &[u8]) -> bool {
 impl Farm<'_> {
     fn same_names(&mut self, text: &[u8]) -> Result<(), Difference> {
         let (_, without) = self.ask(text, 0)?;
-        let (lent, with) = self.ask(text, 8)?;
+        let (lent, with) = self.ask(text, FOLDS)?;
         let names = |heard: &Heard| heard.as_ref().ok().map(|listing| names_listed(listing).to_vec());
         if names(&without).is_some() && names(&without) == names(&with) {
             return Ok(());

@@ -7,7 +7,8 @@ use std::path::{Path, PathBuf};
 use std::ptr::NonNull;
 use std::sync::atomic::{AtomicU64, Ordering};
 
-use crate::engine::{Answer, Judged, Refusal, LISTING};
+use crate::engine::{Answer, Judged, Refusal};
+use crate::figures::LISTING_BYTES;
 use crate::random::Random;
 use crate::tally::Tally;
 
@@ -32,9 +33,9 @@ impl Lent {
     /// A listing area that is long enough, and often longer.
     pub fn usual(folds: u64, r: &mut Random) -> Lent {
         let area = match r.below(64) {
-            0 => 65_536 + r.below(LISTING),
-            1..=20 => LISTING,
-            _ => LISTING + r.below(200),
+            0 => 65_536 + r.below(LISTING_BYTES),
+            1..=20 => LISTING_BYTES,
+            _ => LISTING_BYTES + r.below(200),
         };
         Lent { folds, area, text_at: r.below(16), area_at: r.below(16), junk: r.next() }
     }
@@ -43,8 +44,8 @@ impl Lent {
         let area = match r.below(5) {
             0 => 0,
             1 => 1,
-            2 => r.below(LISTING),
-            _ => LISTING - 1,
+            2 => r.below(LISTING_BYTES),
+            _ => LISTING_BYTES - 1,
         };
         Lent { area, ..Lent::usual(folds, r) }
     }
@@ -118,7 +119,7 @@ impl Harness {
 
     /// The listing that the call left, without the zeros after it.
     fn listed(&self, lent: Lent) -> Vec<u8> {
-        let area = &self.after[lent.area_at..lent.area_at + LISTING];
+        let area = &self.after[lent.area_at..lent.area_at + LISTING_BYTES];
         area.iter().copied().take_while(|&byte| byte != 0).collect()
     }
 
@@ -170,14 +171,14 @@ impl Harness {
             Err(_) => return Some("the listing area was touched on a refusal"),
             Ok(listing) => listing,
         };
-        let (first, end) = (lent.area_at, lent.area_at + LISTING);
+        let (first, end) = (lent.area_at, lent.area_at + LISTING_BYTES);
         let (text, rest) = self.after[first..end].split_at(listing.len());
         if text != listing.as_slice() {
             Some("the listing")
         } else if rest.iter().any(|&byte| byte != 0) {
             Some("the listing area is not zero after the text")
         } else if self.after[..first] != self.before[..first] || self.after[end..] != self.before[end..] {
-            Some("bytes past the listing area's 4,608 were touched")
+            Some("bytes past the listing area's stated size were touched")
         } else {
             None
         }
@@ -185,7 +186,7 @@ impl Harness {
 
     fn difference(&self, text: &[u8], code: u64, said: Heard, lent: Lent) -> Difference {
         let tested = match code {
-            0 => show(&Ok(self.after[lent.area_at..lent.area_at + lent.area.min(LISTING)].to_vec())),
+            0 => show(&Ok(self.after[lent.area_at..lent.area_at + lent.area.min(LISTING_BYTES)].to_vec())),
             code => show(&Err(Refusal { number: code / 65_536, line: code % 65_536 })),
         };
         Difference { text: text.to_vec(), lent, what: String::new(), tested, second: show(&said) }

@@ -1,7 +1,8 @@
 //! The known books of the specification, with its figures, and books at its limits. The rounds of the two ladders, the chain and the
 //! ring stand nowhere in it: they are worked out by hand from its definitions.
 
-use crate::engine::{Judged, Refusal, MARK};
+use crate::engine::{Judged, Refusal};
+use crate::figures::{printed, refusal, ATOMS, FOLDS, LAST_LINE, LISTED, LONGEST_LISTING, MARK, NAMES, NAME_BYTES, RULES, TEXT_BYTES};
 use crate::harness::{Difference, Harness, Lent};
 use crate::literal;
 use crate::random::Random;
@@ -28,14 +29,17 @@ const KNOWN: [(&str, usize, &str, Rounds); 11] = [
     ("x:y z/y:", 3, "y", &[(0, 1), (1, 1)]),
     ("d:c/c:b/b:a/a:", 4, "d c b a", &[(0, 4), (1, 3), (2, 2)]),
     ("p:q/q:p r/r:s/s:", 4, "r s", &[(0, 2)]),
-    ("p:q/q:p r/q:s/s:", 4, "p q s", &[(0, 4), (1, 4), (8, 4)]),
+    (printed::RULES, printed::NAMES, printed::HELD, printed::ROUNDS),
     ("a:/a:b", 2, "a", &[(0, 2)]),
     ("P:q/Q:", 2, "p q", &[(0, 2)]),
-    // As printed for the lister, remarks and blanks added by hand.
-    ("# job/P : q/\t/q: p r  p/q:S/  s:\t", 4, "p q s", &[(8, 4)]),
+    // As printed, remarks and blanks added by hand.
+    ("# job/P : q/\t/q: p r  p/q:S/  s:\t", printed::NAMES, printed::HELD, printed::ROUNDS),
 ];
 
-const CHAIN: [(u64, usize); 9] = [(0, 128), (1, 65), (2, 33), (3, 17), (4, 9), (5, 5), (6, 3), (7, 2), (8, 2)];
+/// The rounds by folds where so many steps follow each other and one round more is made: each fold halves the steps.
+fn halved(steps: usize, more: usize) -> Vec<(u64, usize)> {
+    (0..=FOLDS).map(|folds| (folds, more + steps.div_ceil(1 << folds))).collect()
+}
 
 struct Cases<'a> {
     harness: &'a mut Harness,
@@ -74,7 +78,7 @@ impl Cases<'_> {
 
     fn listed(&mut self, text: &[u8], names: usize, held: &[String], rounds: &[(u64, usize)]) -> Result<(), Difference> {
         for (folds, rounds) in rounds {
-            let mut listing = format!("DPL 0001 names={names} held={} folds={folds} rounds={rounds}\n", held.len());
+            let mut listing = format!("{LISTED} names={names} held={} folds={folds} rounds={rounds}\n", held.len());
             held.iter().for_each(|name| listing += &format!("{name}\n"));
             self.expect(text, *folds, Ok(listing))?;
         }
@@ -83,18 +87,18 @@ impl Cases<'_> {
 
     fn refused(&mut self, text: &[u8], number: u64, line: u64) -> Result<(), Difference> {
         self.expect(text, 0, Err((number, line)))?;
-        self.expect(text, 8, Err((number, line)))
+        self.expect(text, FOLDS, Err((number, line)))
     }
 
     /// A book for which the specification gives no rounds.
     fn held_only(&mut self, rules: &str, names: usize, held: &str) -> Result<(), Difference> {
         let text = book(rules);
-        for folds in 0..=8 {
+        for folds in 0..=FOLDS {
             let lent = Lent::usual(folds, &mut self.random);
             let heard = self.harness.check_text(&text, lent)?;
             self.count += 1;
             let listing = String::from_utf8(heard.clone().unwrap_or_default()).unwrap_or_default();
-            let head = format!("DPL 0001 names={names} held={} folds={folds} rounds=", held.lines().count());
+            let head = format!("{LISTED} names={names} held={} folds={folds} rounds=", held.lines().count());
             let names = listing.split_once('\n').map_or("", |(_, names)| names);
             if !listing.starts_with(&head) || names != held {
                 return Err(Difference::unexpected(&text, lent, &heard, "a known book", format!("{head}.. {held:?}")));
@@ -105,78 +109,97 @@ impl Cases<'_> {
 
     /// What the call does not show, of the second engine: c and h of the printed book, rows after one fold.
     fn rows_and_counts(&mut self) -> Result<(), Difference> {
-        let printed = Judged::new(&book("p:q/q:p r/q:s/s:"));
+        let printed = Judged::new(&book(printed::RULES));
         let folded = Judged::new(&book("p:q s t/q:p t/s:t/t:"));
-        let counts = printed.system.map(|system| (system.c, system.h));
+        let counts = printed.system.map(|system| (system.all.len(), system.c, system.h));
         let rows = folded.system.map(|system| literal::fold(&literal::rows(&system)));
         let members = |row: &Vec<bool>| (0..row.len()).filter(|&atom| row[atom]).collect::<Vec<_>>();
         // p, q, s, t are 0 to 3.
         let as_printed = rows.map_or(false, |rows| members(&rows[0]) == [0, 3] && members(&rows[1]) == [1, 2, 3]);
-        if counts == Some((3, 1)) && as_printed {
+        if counts == Some((printed::ATOMS, printed::C, printed::H)) && as_printed {
             return Ok(());
         }
         let lent = Lent::usual(1, &mut self.random);
         let nothing = Ok(Vec::new());
-        Err(Difference::unexpected(MARK, lent, &nothing, "the second engine's c, h or rows", "c 3, h 1, p t, q s t".to_string()))
+        let expected = format!("{} atoms, c {}, h {}, p t, q s t", printed::ATOMS, printed::C, printed::H);
+        Err(Difference::unexpected(MARK, lent, &nothing, "the second engine's c, h or rows", expected))
     }
 
     fn limits(&mut self) -> Result<(), Difference> {
-        let (text, held) = ladder_of_85();
-        self.listed(&text, 86, &held, &[(0, 172), (8, 172)])?;
-        let (text, held) = ladder_of_64();
-        self.listed(&text, 128, &held, &[(0, 193), (8, 130)])?;
-        let (text, held) = chain_of_128();
-        self.listed(&text, 128, &held, &CHAIN)?;
-        let (text, held) = ring_of_128();
-        self.listed(&text, 128, &held, &RING)?;
-        let long = "n".repeat(32);
-        self.listed(&book(&format!("{long}:")), 1, std::slice::from_ref(&long), &[(0, 1), (8, 1)])?;
-        self.refused(&book(&format!("{long}n:")), 5, 2)?;
-        self.refused(&book(&format!("a:/b: {long}n a")), 5, 3)?;
-        // 64 names with two rules each and 64 undefined ones; then one helper more.
-        let rules: Vec<String> = (0..64).map(|i| format!("a{i}:b{i}/a{i}:a{i}")).collect();
+        let heads = (ATOMS - 1) / 3;
+        let (text, held) = ladder(heads, ATOMS - 1 - 3 * heads);
+        self.listed(&text, held.len(), &held, &[(0, 2 * heads + 2), (FOLDS, 2 * heads + 2)])?;
+        let heads = ATOMS / 4;
+        // Six names and six other bytes for each head.
+        let long = NAME_BYTES.min((TEXT_BYTES - MARK.len()) / (6 * heads) - 1);
+        let (text, held) = ladder_with_names(heads, long);
+        self.listed(&text, 2 * heads, &held, &[(0, 3 * heads + 1), (FOLDS, 2 * heads + 2)])?;
+        self.long_listing(&text, LONGEST_LISTING - NAMES * (NAME_BYTES - long))?;
+        let (text, held) = chain();
+        self.listed(&text, NAMES, &held, &halved(NAMES - 1, 1))?;
+        let (text, held) = ring();
+        self.listed(&text, NAMES, &held, &halved(NAMES, 2))?;
+        let long = "n".repeat(NAME_BYTES);
+        self.listed(&book(&format!("{long}:")), 1, std::slice::from_ref(&long), &[(0, 1), (FOLDS, 1)])?;
+        self.refused(&book(&format!("{long}n:")), refusal::LINE, 2)?;
+        self.refused(&book(&format!("a:/b: {long}n a")), refusal::LINE, 3)?;
+        // Names with two rules each and as many undefined ones; then one helper more.
+        let rules: Vec<String> = (0..ATOMS / 4).map(|i| format!("a{i}:b{i}/a{i}:a{i}")).collect();
         let rules = rules.join("/");
-        self.listed(&book(&rules), 128, &[], &[(0, 1), (8, 1)])?;
-        self.refused(&book(&format!("{rules}/a0:")), 8, 0)
+        self.listed(&book(&rules), ATOMS / 2, &[], &[(0, 1), (FOLDS, 1)])?;
+        self.refused(&book(&format!("{rules}/a0:")), refusal::ATOMS, 0)
+    }
+
+    /// A book whose listing is that long without folds.
+    fn long_listing(&mut self, text: &[u8], length: usize) -> Result<(), Difference> {
+        let lent = Lent::usual(0, &mut self.random);
+        let heard = self.harness.check_text(text, lent)?;
+        if heard.as_ref().map_or(0, Vec::len) == length {
+            return Ok(());
+        }
+        Err(Difference::unexpected(text, lent, &heard, "a long listing", format!("{length} bytes")))
     }
 
     fn refusals(&mut self) -> Result<(), Difference> {
-        self.refused(b"", 3, 0)?;
-        self.refused(b"DPB 0001", 3, 0)?;
-        self.refused(b"DPB 0002\n", 3, 0)?;
-        self.refused(b"DPB 0001\r\n", 3, 0)?;
-        self.refused(b"DPB 0001\na:", 4, 0)?;
-        self.refused(b"DPB 0001\n:\na:", 4, 0)?;
-        self.refused(&book("a:\r/b:"), 5, 2)?;
-        self.refused(&book("/#\r/a:\r"), 5, 4)?;
-        self.refused(&book("a:/ # no remark"), 5, 3)?;
-        self.expect(&book("a:"), 9, Err((9, 0)))?;
-        self.expect(b"", 9, Err((9, 0)))?;
-        self.refused(&vec![b'\n'; 16_385], 2, 0)?;
-        self.refused(&vec![b'\n'; 16_384], 3, 0)?;
-        self.expect(&vec![b'\n'; 16_385], 9, Err((2, 0)))?;
+        self.refused(b"", refusal::MARK, 0)?;
+        self.refused(b"DPB 0001", refusal::MARK, 0)?;
+        self.refused(b"DPB 0002\n", refusal::MARK, 0)?;
+        self.refused(b"DPB 0001\r\n", refusal::MARK, 0)?;
+        self.refused(b"DPB 0001\na:", refusal::LAST_BYTE, 0)?;
+        self.refused(b"DPB 0001\n:\na:", refusal::LAST_BYTE, 0)?;
+        self.refused(&book("a:\r/b:"), refusal::LINE, 2)?;
+        self.refused(&book("/#\r/a:\r"), refusal::LINE, 4)?;
+        self.refused(&book("a:/ # no remark"), refusal::LINE, 3)?;
+        self.expect(&book("a:"), FOLDS + 1, Err((refusal::FOLDS, 0)))?;
+        self.expect(b"", FOLDS + 1, Err((refusal::FOLDS, 0)))?;
+        self.refused(&vec![b'\n'; TEXT_BYTES + 1], refusal::LONG_TEXT, 0)?;
+        self.refused(&vec![b'\n'; TEXT_BYTES], refusal::MARK, 0)?;
+        self.expect(&vec![b'\n'; TEXT_BYTES + 1], FOLDS + 1, Err((refusal::LONG_TEXT, 0)))?;
         self.within_a_line()
     }
 
-    /// Lines downward, and in a line 5, then 7, then 6.
+    /// Lines downward, and in a line its form, then the rules, then the names.
     fn within_a_line(&mut self) -> Result<(), Difference> {
         let names = |count: usize| (0..count).map(|i| format!("n{i}")).collect::<Vec<_>>().join(" ");
-        self.listed(&book(&format!("n0: {}", names(128))), 128, &[], &[(0, 1), (8, 1)])?;
-        self.refused(&book(&format!("/n0: {}", names(129))), 6, 3)?;
-        self.refused(&book(&format!("n0: {} :", names(129))), 5, 2)?;
-        self.refused(&book(&format!("n0: {}/:", names(129))), 6, 2)?;
+        let (full, over) = (names(NAMES), names(NAMES + 1));
+        self.listed(&book(&format!("n0: {full}")), NAMES, &[], &[(0, 1), (FOLDS, 1)])?;
+        self.refused(&book(&format!("/n0: {over}")), refusal::NAMES, 3)?;
+        self.refused(&book(&format!("n0: {over} :")), refusal::LINE, 2)?;
+        self.refused(&book(&format!("n0: {over}/:")), refusal::NAMES, 2)?;
         let rules = |count: usize| vec!["a:"; count].join("/");
-        self.refused(&book(&rules(256)), 8, 0)?;
-        self.refused(&book(&rules(257)), 7, 258)?;
-        self.refused(&book(&format!("{}/#/b:/:", rules(256))), 7, 259)?;
-        self.refused(&book(&format!("{}/b::", rules(256))), 5, 258)?;
-        self.refused(&book(&format!("{}/x: {}", rules(256), names(129))), 7, 258)?;
-        self.refused(&book(&format!("{}/x: {}", rules(255), names(129))), 6, 257)?;
+        // The mark is line 1: rule i is in line i + 1.
+        let (full, last) = (rules(RULES), RULES as u64 + 1);
+        self.refused(&book(&full), refusal::ATOMS, 0)?;
+        self.refused(&book(&rules(RULES + 1)), refusal::RULES, last + 1)?;
+        self.refused(&book(&format!("{full}/#/b:/:")), refusal::RULES, last + 2)?;
+        self.refused(&book(&format!("{full}/b::")), refusal::LINE, last + 1)?;
+        self.refused(&book(&format!("{full}/x: {over}")), refusal::RULES, last + 1)?;
+        self.refused(&book(&format!("{}/x: {over}", rules(RULES - 1))), refusal::NAMES, last)?;
         // The last line that a text has room for.
         let mut text = MARK.to_vec();
-        text.resize(16_382, b'\n');
+        text.resize(TEXT_BYTES - 2, b'\n');
         text.extend_from_slice(b":\n");
-        self.refused(&text, 5, 16_375)
+        self.refused(&text, refusal::LINE, LAST_LINE as u64)
     }
 
     /// Each of the 256 byte values in each part of a line.
@@ -185,7 +208,7 @@ impl Cases<'_> {
         for byte in 0..=255 {
             for frame in frames {
                 let text: Vec<u8> = book(frame).iter().map(|&b| if b == b'@' { byte } else { b }).collect();
-                let lent = Lent::usual(self.count as u64 % 9, &mut self.random);
+                let lent = Lent::usual(self.count as u64 % (FOLDS + 1), &mut self.random);
                 let _ = self.harness.check_text(&text, lent)?;
                 self.count += 1;
             }
@@ -198,49 +221,52 @@ fn book_of(rules: &[String]) -> Vec<u8> {
     book(&rules.join("/"))
 }
 
-/// `f:`, then 85 heads over the one before and over themselves: 256 atoms.
-fn ladder_of_85() -> (Vec<u8>, Vec<String>) {
+/// `f:`, then heads over the one before and over themselves, three atoms for each; then more facts.
+fn ladder(heads: usize, more: usize) -> (Vec<u8>, Vec<String>) {
     let mut held = vec!["f".to_string()];
     let mut rules = vec!["f:".to_string()];
-    for i in 0..85 {
+    for i in 0..heads {
         let head = format!("h{i}");
         rules.push(format!("{head}:{}", held[i]));
         rules.push(format!("{head}:{head}"));
         held.push(head);
     }
+    for i in 0..more {
+        rules.push(format!("more{i}:"));
+        held.push(format!("more{i}"));
+    }
     (book_of(&rules), held)
 }
 
-/// 64 heads of two rules with a name between each two, all names of 32 bytes: 256 atoms, all held.
-fn ladder_of_64() -> (Vec<u8>, Vec<String>) {
+/// Heads of two rules with a name between each two, all names that long: four atoms for each, all held.
+fn ladder_with_names(heads: usize, long: usize) -> (Vec<u8>, Vec<String>) {
     let (mut held, mut rules) = (Vec::new(), Vec::new());
-    for i in 0..64 {
-        let (head, under) = (format!("h{i:031}"), format!("u{i:031}"));
+    let name = |letter: char, i: usize| format!("{letter}{i:0width$}", width = long - 1);
+    for i in 0..heads {
+        let (head, under) = (name('h', i), name('u', i));
         rules.push(format!("{head}:{under}"));
         rules.push(format!("{head}:{head}"));
-        let below = if i == 0 { String::new() } else { format!("h{:031}", i - 1) };
+        let below = if i == 0 { String::new() } else { name('h', i - 1) };
         rules.push(format!("{under}:{below}"));
         held.extend([head, under]);
     }
     (book_of(&rules), held)
 }
 
-/// A ring of 128 with a fact among the first one's two rules: 128 levels follow it, as long a way as there is. The
-/// rounds are those of the definitions, taken step by step; the engine of tests/engine.py gives the same.
-const RING: [(u64, usize); 9] = [(0, 130), (1, 66), (2, 34), (3, 18), (4, 10), (5, 6), (6, 4), (7, 3), (8, 3)];
-
-fn ring_of_128() -> (Vec<u8>, Vec<String>) {
+/// A ring of all names with a fact among the first one's two rules: a level for each name follows it, as long a way as there is. The
+/// rounds are those of the definitions, taken step by step, and one for the head of two rules; the engine of tests/engine.py gives the same.
+fn ring() -> (Vec<u8>, Vec<String>) {
     let mut held = vec!["p".to_string()];
-    held.extend((1..128).map(|i| format!("n{i}")));
+    held.extend((1..NAMES).map(|i| format!("n{i}")));
     let mut rules = vec!["p:n1".to_string(), "p:".to_string()];
-    rules.extend((1..127).map(|i| format!("n{i}:n{}", i + 1)));
-    rules.push("n127:p".to_string());
+    rules.extend((1..NAMES - 1).map(|i| format!("n{i}:n{}", i + 1)));
+    rules.push(format!("n{}:p", NAMES - 1));
     (book_of(&rules), held)
 }
 
-fn chain_of_128() -> (Vec<u8>, Vec<String>) {
-    let held: Vec<String> = (0..128).map(|i| format!("c{i}")).collect();
+fn chain() -> (Vec<u8>, Vec<String>) {
+    let held: Vec<String> = (0..NAMES).map(|i| format!("c{i}")).collect();
     let mut rules = vec!["c0:".to_string()];
-    rules.extend((1..128).map(|i| format!("c{i}:c{}", i - 1)));
+    rules.extend((1..NAMES).map(|i| format!("c{i}:c{}", i - 1)));
     (book_of(&rules), held)
 }

@@ -9,6 +9,7 @@ mod damage;
 mod definitions;
 mod engine;
 mod farm;
+mod figures;
 mod harness;
 mod known;
 mod literal;

@@ -1,6 +1,6 @@
 //! How the names of a random book are spelled: all of them differ, whatever the capitals.
 
-use crate::engine::NAME;
+use crate::figures::NAME_BYTES;
 use crate::random::Random;
 
 #[derive(Clone, Copy)]
@@ -42,21 +42,21 @@ fn numeral(number: usize, digits: &[u8]) -> Vec<u8> {
 /// Alike but for the first or the last bytes.
 fn long(name: usize) -> Vec<u8> {
     let digits = numeral(name, b"abcdefghij");
-    let mut long = vec![b'x'; NAME - digits.len()];
+    let mut long = vec![b'x'; NAME_BYTES - digits.len()];
     let at = if name % 2 == 0 { long.len() } else { 0 };
     long.splice(at..at, digits);
     long
 }
 
 fn run(name: usize) -> Vec<u8> {
-    vec![b"abcdefgh"[name / NAME % 8]; name % NAME + 1]
+    vec![b"abcdefgh"[name / NAME_BYTES % 8]; name % NAME_BYTES + 1]
 }
 
 // ---------------------------------------------------------------- drawn
 
 /// Few bytes give names that are alike by themselves.
-const BYTES: [&[u8]; 4] = [NAME_BYTES, NAME_BYTES, b"0123456789.x", b"ab"];
-const NAME_BYTES: &[u8] = b"abcdefghijklmnopqrstuvwxyz0123456789._-";
+const BYTES: [&[u8]; 4] = [LETTERS, LETTERS, b"0123456789.x", b"ab"];
+const LETTERS: &[u8] = b"abcdefghijklmnopqrstuvwxyz0123456789._-";
 
 /// Any lengths and bytes, so that any two names may share a bucket of an index. Many names are made from one before: a search that
 /// leaves out a part of what makes two names one, their length or some byte, then takes them for one.
@@ -74,7 +74,7 @@ fn drawn(count: usize, r: &mut Random) -> Vec<Vec<u8>> {
 
 fn fresh(bytes: &[u8], r: &mut Random) -> Vec<u8> {
     let mut name = Vec::new();
-    extend(&mut name, r.between(1, NAME), bytes, r);
+    extend(&mut name, r.between(1, NAME_BYTES), bytes, r);
     name
 }
 
@@ -85,10 +85,10 @@ fn relative(name: &[u8], bytes: &[u8], r: &mut Random) -> Vec<u8> {
     match r.below(6) {
         0 => name.truncate(one + 1),
         // Where a comparison of eight bytes at a time comes to an end.
-        1 => name.truncate(8 * r.between(1, 3)),
-        2 => extend(&mut name, r.between(1, NAME), bytes, r),
-        3 => extend(&mut name, 8 * r.between(1, 4), bytes, r),
-        4 => name[one] = r.pick(NAME_BYTES),
+        1 => name.truncate(8 * r.between(1, NAME_BYTES / 8 - 1)),
+        2 => extend(&mut name, r.between(1, NAME_BYTES), bytes, r),
+        3 => extend(&mut name, 8 * r.between(1, NAME_BYTES / 8), bytes, r),
+        4 => name[one] = r.pick(LETTERS),
         _ => name.swap(one, other),
     }
     name

@@ -5,24 +5,25 @@ use std::time::Instant;
 
 use crate::books;
 use crate::engine::Judged;
+use crate::figures::FOLDS;
 use crate::harness::{Difference, Harness, Lent};
 use crate::random::Random;
 
-const WILD_FOLDS: [u64; 10] = [10, 16, 64, 255, 256, 65_536, 1 << 32, (1 << 32) + 8, 1 << 63, u64::MAX];
+const WILD_FOLDS: [u64; 10] = [FOLDS + 2, 16, 64, 255, 256, 65_536, 1 << 32, (1 << 32) + FOLDS, 1 << 63, u64::MAX];
 
-/// One random book at every fold number from 0 to 9, and sometimes with a wild one or in a short area.
+/// One random book at every fold number and at one too many, and sometimes with a wild one or in a short area.
 fn one(harness: &mut Harness, seed: u64, place: u64) -> Result<(), Difference> {
     let mut random = Random::new(seed, place);
     let text = books::draw(&mut random);
     let judged = Judged::new(&text);
     harness.take_up(&text);
-    let mut calls: Vec<Lent> = (0..=9).map(|folds| Lent::usual(folds, &mut random)).collect();
+    let mut calls: Vec<Lent> = (0..=FOLDS + 1).map(|folds| Lent::usual(folds, &mut random)).collect();
     if random.one_in(4) {
         let folds = random.pick(&WILD_FOLDS);
         calls.push(Lent::usual(folds, &mut random));
     }
     if random.one_in(4) {
-        let folds = random.below(10) as u64;
+        let folds = random.below(FOLDS as usize + 2) as u64;
         calls.push(Lent::short(folds, &mut random));
     }
     for lent in calls {
@@ -44,5 +45,5 @@ pub fn run(harness: &mut Harness, seed: u64, places: Range<u64>) -> Result<Strin
     }
     let (calls, seconds) = (harness.calls - calls, began.elapsed().as_secs_f64());
     let reach = harness.tally.reach();
-    Ok(format!("{books} books, folds 0 to 9, {calls} calls in {seconds:.1} s: alike in every byte; {reach}"))
+    Ok(format!("{books} books, folds 0 to {}, {calls} calls in {seconds:.1} s: alike in every byte; {reach}", FOLDS + 1))
 }

@@ -1,10 +1,9 @@
 // The tables of a small book with one entry, count or length changed, and what the writer answers; the reader and the look-up on areas
 // that are too short.
-use crate::print;
 use crate::whole;
-use crate::whole::Area;
-use libc::STDOUT_FILENO;
 use limits::Book;
+use trial::areas::Area;
+use trial::print;
 
 // Writes into the first bytes of an area, and prints number, length and a checksum of the area.
 fn written_to(
@@ -18,9 +17,10 @@ fn written_to(
 ) {
     if room <= text.len() {
         let w = writer::write(spellings, heads, bodies, n, m, &mut text[0..room]);
-        print::number(w.number as u64);
+        print::first(w.number as u64);
         print::number(w.size as u64);
-        print::last(checksum::total8(text));
+        print::total8(text);
+        print::end();
     }
 }
 
@@ -57,12 +57,9 @@ fn both_in(
 // A name by number from the first bytes of the name area, in brackets.
 fn look_up_in(spellings: &[u8], size: usize, n: usize, a: usize) {
     if size <= spellings.len() {
-        io::write_all(STDOUT_FILENO, b"[");
-        io::write_all(
-            STDOUT_FILENO,
-            lexicon::look_up::look_up(&spellings[0..size], n, a),
-        );
-        io::write_all(STDOUT_FILENO, b"]\n");
+        print::text(b"[");
+        print::text(lexicon::look_up::look_up(&spellings[0..size], n, a));
+        print::line(b"]");
     }
 }
 
@@ -206,8 +203,8 @@ fn cut(one: usize, other: usize) {
     shorten(&mut spellings, 2 * Book::NAME_BYTES, one);
     shorten(&mut spellings, Book::NAME_AREA, other);
     full_bodies(&mut bodies, 3);
-    set64(&mut bodies, 6, u64::MAX - 1);
-    set64(&mut bodies, 7, (1 << 46) - 1);
+    set64(&mut bodies, 3 * Book::BODY_WORDS, u64::MAX - 1);
+    set64(&mut bodies, 3 * Book::BODY_WORDS + 1, (1 << 46) - 1);
     long_written(&spellings, &bodies, 4);
 }
 
@@ -251,8 +248,8 @@ fn writer_rules() {
     body(0, 4);
     body(0, 18);
     body(1, 1);
-    body(2, 1);
-    body(8, 1);
+    body(Book::BODY_WORDS, 1);
+    body(4 * Book::BODY_WORDS, 1);
     body(Book::BODY_AREA - 1, 1);
     body(Book::BODY_AREA, 1);
 }

@@ -1,42 +1,23 @@
 // Whole books: read, shown, written and read again.
-use crate::print;
-use libc::STDOUT_FILENO;
-use limits::Book;
 use reader::Answer;
-
-// Each area has four entries past its stated size, and begins as marks.
-pub struct Area;
-
-impl Area {
-    pub const SPELLINGS: usize = Book::NAME_AREA + 4;
-
-    pub const HEADS: usize = Book::RULES + 4;
-
-    pub const BODIES: usize = Book::BODY_AREA + 4;
-
-    pub const TEXT: usize = Book::TEXT_BYTES + 4;
-
-    pub const MARK8: u8 = 0xA5;
-
-    pub const MARK16: u16 = 0x1234;
-
-    pub const MARK64: u64 = 0x0123_4567_89AB_CDEF;
-}
+use trial::areas::Area;
+use trial::print;
 
 // Texts up to this long are printed whole.
 const SHORT: usize = 600;
 
 fn print_answer(r: Answer) {
-    print::number(r.number as u64);
+    print::first(r.number as u64);
     print::number(r.line as u64);
     print::number(r.names as u64);
     print::number(r.rules as u64);
 }
 
 fn print_totals(spellings: &[u8], heads: &[u16], bodies: &[u64]) {
-    print::number(checksum::total8(spellings));
-    print::number(checksum::total16(heads));
-    print::last(checksum::total64(bodies));
+    print::total8(spellings);
+    print::total16(heads);
+    print::total64(bodies);
+    print::end();
 }
 
 // Reads into areas that are lent, and prints the answer and a checksum of each.
@@ -62,28 +43,20 @@ fn judge_front(area: &[u8], size: usize) {
     }
 }
 
-fn print_front(area: &[u8], size: usize) {
-    if size <= area.len() {
-        io::write_all(STDOUT_FILENO, &area[0..size]);
-    }
-}
-
 // Each name by number, and the empty part past the last.
 fn look_up(spellings: &[u8], n: usize) {
     let mut a = 0;
     while a < n {
-        io::write_all(STDOUT_FILENO, lexicon::look_up::look_up(spellings, n, a));
-        io::write_all(STDOUT_FILENO, b"\n");
+        print::line(lexicon::look_up::look_up(spellings, n, a));
         a += 1;
     }
-    io::write_all(STDOUT_FILENO, lexicon::look_up::look_up(spellings, n, n));
-    io::write_all(STDOUT_FILENO, b"\n");
+    print::line(lexicon::look_up::look_up(spellings, n, n));
 }
 
 // A text just written, of n names: prints it with its names where it is short, and reads it again.
 fn reread(text: &[u8], size: usize, spellings: &[u8], n: usize) {
     if size <= SHORT {
-        print_front(text, size);
+        print::front(text, size);
         look_up(spellings, n);
     }
     judge_front(text, size);
@@ -92,8 +65,9 @@ fn reread(text: &[u8], size: usize, spellings: &[u8], n: usize) {
 fn rewrite(spellings: &[u8], heads: &[u16], bodies: &[u64], n: usize, m: usize) {
     let mut text = [Area::MARK8; Area::TEXT];
     let w = writer::write(spellings, heads, bodies, n, m, &mut text);
-    print::number(w.size as u64);
-    print::last(checksum::total8(&text));
+    print::first(w.size as u64);
+    print::total8(&text);
+    print::end();
     reread(&text, w.size, spellings, n);
 }
 

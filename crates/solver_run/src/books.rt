@@ -1,7 +1,7 @@
 // A book: solved for each number of folds and for one too many, each time in areas of its own, and taken the plain route.
-use crate::areas::Area;
 use crate::calls;
 use limits::Book;
+use trial::areas::Area;
 
 // In areas of the stated sizes.
 fn stated(text: &[u8], folds: usize) {

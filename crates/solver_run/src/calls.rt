@@ -1,11 +1,10 @@
 // The solver and the plain route, each with what is printed of it: the answer, a checksum of each area that it was lent, and the listing
 // of few atoms whole.
-use crate::areas::Area;
-use crate::print;
+use crate::print::up_to_zero;
+use crate::print::words;
 use limits::Book;
-
-// This many atoms are few.
-const FEW: usize = 12;
+use trial::areas::Area;
+use trial::print;
 
 fn print_answer(r: solver::Answer, folds: usize) {
     print::text(b"solve");
@@ -36,9 +35,9 @@ fn print_rows(all: &[u64], any: &[u64], spare: &[u64], model: &[u64]) {
 // The text at no fold and at eight.
 fn print_listing(r: solver::Answer, folds: usize, listing: &[u8]) {
     print::total8(listing);
-    print::text(b"\n");
-    if r.number == 0 && r.atoms <= FEW && folds % Book::FOLDS == 0 {
-        print::up_to_zero(listing);
+    print::end();
+    if r.number == 0 && r.atoms <= print::FEW && folds % Book::FOLDS == 0 {
+        up_to_zero(listing);
     }
 }
 
@@ -77,11 +76,11 @@ fn print_plain(r: plain::Answer, heads: &[u16], bodies: &[u64], model: &[u64]) {
     print::number(r.number as u64);
     print::number(r.held as u64);
     print::number(r.rounds as u64);
-    print::words(model, Book::ROW_WORDS);
+    words(model, Book::ROW_WORDS);
     print::total16(heads);
     print::total64(bodies);
     print::total64(model);
-    print::text(b"\n");
+    print::end();
 }
 
 fn run(heads: &[u16], bodies: &[u64], n: usize, m: usize) {

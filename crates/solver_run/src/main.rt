@@ -1,40 +1,25 @@
 // Solves each book that an argument names and takes it the plain route, and prints what is answered and left. Then calls with areas too short.
-mod areas;
 mod books;
 mod calls;
 mod many;
 mod print;
 mod short;
 
-// Room for a book that is too long, or for a file of many books.
-const INPUT: usize = 32768;
+use trial::files;
+use trial::lines;
 
 fn judge(text: &[u8]) {
-    if many::titled(text) {
+    if lines::titled(text) {
         many::show(text);
     } else {
         books::show(text);
     }
 }
 
-// One file of data/.
-fn file(path: &[u8]) {
-    let fd = os::open_read(path);
-    if fd < 0 {
-        os::fail(path);
-        return;
-    }
-    let mut text = [0u8; INPUT];
-    let got = io::read_full(fd, &mut text);
-    libc::close(fd);
-    print::line(path);
-    judge(&text[..got]);
-}
-
 fn argument(i: usize) {
-    let mut path = io::buffer();
-    let n = os::arg(i, &mut path);
-    file(&path[..n]);
+    let mut text = [0u8; files::INPUT];
+    let got = files::take(i, &mut text);
+    judge(&text[..got]);
 }
 
 fn main() {

@@ -1,8 +1,8 @@
 // Areas too short: each of the eight in turn, by one entry and by four, for a book that is accepted and for calls that have other faults too.
-use crate::areas::Area;
 use crate::calls;
-use crate::print;
 use limits::Book;
+use trial::areas::Area;
+use trial::print;
 ghost use Prim.Native.Nat.{_≤_};
 
 // How many entries of area `number` are lent where area `short` has so many less than stated.
@@ -52,8 +52,12 @@ fn each(title: &[u8], text: &[u8], folds: usize) {
 pub fn all() {
     let long = [0u8; Book::TEXT_BYTES + 1];
     each(b"short: a book", b"DPB 0001\np:q\nq:p r\nq:s\ns:\n", 1);
-    each(b"short: folds over 8", b"DPB 0001\na:\n", 9);
+    each(b"short: folds over 8", b"DPB 0001\na:\n", Book::FOLDS + 1);
     each(b"short: a wrong mark", b"DPB 0002\na:\n", 0);
-    each(b"short: a line at fault", b"DPB 0001\na\n", 8);
-    each(b"short: text too long, folds over 8", &long, 9);
+    each(b"short: a line at fault", b"DPB 0001\na\n", Book::FOLDS);
+    each(
+        b"short: text too long, folds over 8",
+        &long,
+        Book::FOLDS + 1,
+    );
 }

@@ -1,8 +1,8 @@
 // A book: standardised, and from there folded and run for each number of folds.
-use crate::areas::Area;
 use crate::calls;
-use crate::print;
 use limits::Book;
+use trial::areas::Area;
+use trial::print;
 
 // Prints what standardising answers and leaves; whether it accepts.
 fn standardised(heads: &[u16], bodies: &[u64], n: usize, m: usize) -> bool {

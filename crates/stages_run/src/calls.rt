@@ -1,21 +1,12 @@
 // The three calls and the plain route, each with what is printed of it: the answer, a checksum of each area that it was lent, and the rows of few atoms whole.
-use crate::print;
-
-// This many atoms are few.
-const FEW: usize = 12;
+use crate::print::rows;
+use trial::print;
 
 fn totals(all: &[u64], any: &[u64], model: &[u64]) {
     print::total64(all);
     print::total64(any);
     print::total64(model);
-    print::text(b"\n");
-}
-
-// The first rows of an area, where a call accepted few atoms.
-fn rows(number: usize, atoms: usize, title: &[u8], area: &[u64], count: usize) {
-    if number == 0 && atoms <= FEW {
-        print::rows(title, area, count);
-    }
+    print::end();
 }
 
 fn print_tables(r: standard::Answer, heads: &[u16], bodies: &[u64]) {
@@ -57,7 +48,7 @@ fn print_fold(number: usize, all: &[u64], spare: &[u64], count: usize, k: usize)
     print::number(number as u64);
     print::total64(all);
     print::total64(spare);
-    print::text(b"\n");
+    print::end();
     rows(number, count, b"all", all, count);
 }
 
@@ -87,7 +78,7 @@ fn print_plain(r: plain::Answer, heads: &[u16], bodies: &[u64], model: &[u64]) {
     print::total16(heads);
     print::total64(bodies);
     print::total64(model);
-    print::text(b"\n");
+    print::end();
 }
 
 pub fn plainly(heads: &[u16], bodies: &[u64], n: usize, m: usize, model: &mut [u64]) {

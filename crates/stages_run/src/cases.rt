@@ -6,18 +6,19 @@
 //   R count . . .      runs, after the fold if there is one, lending so many entries of "all", "any", model
 // In a case with S the tables begin as zeros, in one without it "all", "any" and model do; all else begins as marks.
 use crate::areas;
-use crate::areas::Area;
 use crate::calls;
-use crate::lines;
-use crate::print;
+use crate::words;
+use trial::areas::Area;
+use trial::lines;
+use trial::print;
 
 // The entries that the line at a place gives.
 fn put(text: &[u8], at: usize, area: &mut [u64]) {
-    let mut word = lines::next(text, lines::next(text, at));
-    let mut i = lines::size(text, at, 1);
+    let mut word = words::next(text, words::next(text, at));
+    let mut i = words::size(text, at, 1);
     while i < area.len() && word < text.len() {
-        area[i] = lines::number(text, word);
-        word = lines::next(text, word);
+        area[i] = words::number(text, word);
+        word = words::next(text, word);
         i += 1;
     }
 }
@@ -28,11 +29,7 @@ fn fill(text: &[u8], letter: u8, area: &mut [u64]) {
     let mut at = lines::find(text, 0, letter);
     while at < text.len() {
         put(text, at, area);
-        let after = lines::find(text, lines::next_line(text, at), letter);
-        if after <= at {
-            return;
-        }
-        at = after;
+        at = lines::find(text, lines::next_line(text, at), letter);
     }
 }
 
@@ -56,11 +53,11 @@ fn standardise(text: &[u8], at: usize, heads: &[u16], bodies: &[u64]) {
     let mut all = [Area::MARK64; Area::ROWS];
     let mut any = [Area::MARK64; Area::ROWS];
     let mut model = [Area::MARK64; Area::MODEL];
-    let n = lines::size(text, at, 1);
-    let m = lines::size(text, at, 2);
-    let a = lines::size(text, at, 5);
-    let b = lines::size(text, at, 6);
-    let c = lines::size(text, at, 7);
+    let n = words::size(text, at, 1);
+    let m = words::size(text, at, 2);
+    let a = words::size(text, at, 5);
+    let b = words::size(text, at, 6);
+    let c = words::size(text, at, 7);
     if a <= Area::ROWS && b <= Area::ROWS && c <= Area::MODEL {
         calls::standardise(
             heads,
@@ -77,9 +74,9 @@ fn standardise(text: &[u8], at: usize, heads: &[u16], bodies: &[u64]) {
 // Goes the plain route as the same line says.
 fn plainly(text: &[u8], at: usize, heads: &[u16], bodies: &[u64]) {
     let mut model = [Area::MARK64; Area::MODEL];
-    let n = lines::size(text, at, 1);
-    let m = lines::size(text, at, 2);
-    let c = lines::size(text, at, 7);
+    let n = words::size(text, at, 1);
+    let m = words::size(text, at, 2);
+    let c = words::size(text, at, 7);
     if c <= Area::MODEL {
         calls::plainly(heads, bodies, n, m, &mut model[0..c]);
     }
@@ -92,8 +89,8 @@ fn tables(text: &[u8], at: usize) {
     fill(text, b'h', &mut wide);
     areas::narrow(&wide, &mut heads);
     fill(text, b'b', &mut bodies);
-    let a = lines::size(text, at, 3);
-    let b = lines::size(text, at, 4);
+    let a = words::size(text, at, 3);
+    let b = words::size(text, at, 4);
     standardise(text, at, front16(&heads, a), front64(&bodies, b));
     plainly(text, at, front16(&heads, a), front64(&bodies, b));
 }
@@ -102,10 +99,10 @@ fn tables(text: &[u8], at: usize) {
 fn fold(text: &[u8], all: &mut [u64]) {
     let mut spare = [Area::MARK64; Area::ROWS];
     let at = lines::find(text, 0, b'F');
-    let count = lines::size(text, at, 1);
-    let k = lines::size(text, at, 2);
-    let a = lines::size(text, at, 3);
-    let b = lines::size(text, at, 4);
+    let count = words::size(text, at, 1);
+    let k = words::size(text, at, 2);
+    let a = words::size(text, at, 3);
+    let b = words::size(text, at, 4);
     if at < text.len() && a <= all.len() && b <= Area::ROWS {
         calls::fold(&mut all[0..a], &mut spare[0..b], count, k);
     }
@@ -114,10 +111,10 @@ fn fold(text: &[u8], all: &mut [u64]) {
 // Runs, where there is a line for it.
 fn run(text: &[u8], all: &[u64], any: &[u64], model: &mut [u64]) {
     let at = lines::find(text, 0, b'R');
-    let count = lines::size(text, at, 1);
-    let a = lines::size(text, at, 2);
-    let b = lines::size(text, at, 3);
-    let c = lines::size(text, at, 4);
+    let count = words::size(text, at, 1);
+    let a = words::size(text, at, 2);
+    let b = words::size(text, at, 3);
+    let c = words::size(text, at, 4);
     if at < text.len() && c <= model.len() {
         calls::run(front64(all, a), front64(any, b), &mut model[0..c], count);
     }
@@ -144,24 +141,13 @@ fn case(text: &[u8]) {
     }
 }
 
-// The part of a file from a place to another, where there is one.
-fn part(text: &[u8], from: usize, to: usize) -> &[u8] {
-    if from <= to && to <= text.len() {
-        return &text[from..to];
-    }
-    &text[0..0]
-}
-
 pub fn each(text: &[u8]) {
     let mut at = 0;
     while at < text.len() {
         let first = lines::next_line(text, at);
-        let after = lines::find(text, first, b'#');
-        if after <= at {
-            return;
-        }
-        print::text(part(text, at, first));
-        case(part(text, first, after));
+        let after = lines::part_end(text, first);
+        print::text(&text[at..first]);
+        case(&text[first..after]);
         at = after;
     }
 }

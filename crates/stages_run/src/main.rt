@@ -4,46 +4,24 @@ mod areas;
 mod books;
 mod calls;
 mod cases;
-mod lines;
 mod print;
+mod words;
 
-// Room for a book or a file of cases.
-const INPUT: usize = 32768;
-
-// Whether the file is one of cases: it opens with a title.
-fn titled(text: &[u8]) -> bool {
-    if text.len() == 0 {
-        return false;
-    }
-    text[0] == b'#'
-}
+use trial::files;
+use trial::lines;
 
 fn judge(text: &[u8]) {
-    if titled(text) {
+    if lines::titled(text) {
         cases::each(text);
     } else {
         books::show(text);
     }
 }
 
-// One file of data/.
-fn file(path: &[u8]) {
-    let fd = os::open_read(path);
-    if fd < 0 {
-        os::fail(path);
-        return;
-    }
-    let mut text = [0u8; INPUT];
-    let got = io::read_full(fd, &mut text);
-    libc::close(fd);
-    print::line(path);
-    judge(&text[..got]);
-}
-
 fn argument(i: usize) {
-    let mut path = io::buffer();
-    let n = os::arg(i, &mut path);
-    file(&path[..n]);
+    let mut text = [0u8; files::INPUT];
+    let got = files::take(i, &mut text);
+    judge(&text[..got]);
 }
 
 fn main() {

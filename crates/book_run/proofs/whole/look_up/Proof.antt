@@ -5,10 +5,10 @@ use Rattle.book_run.proofs.whole.look_up.Statement.{statement}
 use Rattle.book_run.proofs.whole.look_up.Tie as tie
 
 abbrev Inv-loop : tie.InvT-loop
-Inv-loop spellings n a₀ t4 t5 a = Unit
+Inv-loop spellings n a₀ a = Unit
 
 abbrev μ-loop : tie.MeasureT-loop
-μ-loop spellings n a₀ t4 t5 a = n - a
+μ-loop spellings n a₀ a = n - a
 
 pub look-up-spec : {M : Type 1} → statement M
 look-up-spec =
@@ -20,12 +20,8 @@ look-up-spec =
     (λ c κs. search needs)
     (λ c κs. search needs)
     (λ c. search needs)
-    (λ c κs. search needs)
-    (λ c. search needs)
     (λ c. search needs)
     (λ c. search needs)
     (λ c κs. search needs)
-    (λ c κs. search needs)
-    (λ c. search needs)
     (λ c κs. search needs)
     (λ c. search needs))

@@ -1,8 +1,8 @@
--- `stages_run::lines::size` is safe. Assumes nothing.
+-- `stages_run::words::size` is safe. Assumes nothing.
 use Prim.Native.Nat.{_-_}
 use borrow.Author.Needs.{needs}
-use Rattle.stages_run.proofs.lines.size.Statement.{statement}
-use Rattle.stages_run.proofs.lines.size.Tie as tie
+use Rattle.stages_run.proofs.words.size.Statement.{statement}
+use Rattle.stages_run.proofs.words.size.Tie as tie
 
 abbrev Inv-loop : tie.InvT-loop
 Inv-loop text at k word₀ j₀ word j = Unit

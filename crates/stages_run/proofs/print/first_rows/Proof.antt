@@ -1,18 +1,18 @@
--- `stages_run::print::rows` is safe. Assumes nothing.
+-- `stages_run::print::first_rows` is safe. Assumes nothing.
 use Prim.Native.Nat.{_-_}
 use Rattle.limits.specs.Book.{atoms}
 use borrow.Author.Needs.{needs}
-use Rattle.stages_run.proofs.print.rows.Statement.{statement}
-use Rattle.stages_run.proofs.print.rows.Tie as tie
+use Rattle.stages_run.proofs.print.first_rows.Statement.{statement}
+use Rattle.stages_run.proofs.print.first_rows.Tie as tie
 
 abbrev Inv-loop : tie.InvT-loop
-Inv-loop title area count i₀ t5 t6 i = Unit
+Inv-loop title area count i₀ t5 i = Unit
 
 abbrev μ-loop : tie.MeasureT-loop
-μ-loop title area count i₀ t5 t6 i = atoms - i
+μ-loop title area count i₀ t5 i = atoms - i
 
-pub rows-spec : {M : Type 1} → statement M
-rows-spec =
+pub first-rows-spec : {M : Type 1} → statement M
+first-rows-spec =
     tie.close
     (tie.spec
     Inv-loop
@@ -23,7 +23,6 @@ rows-spec =
     (λ c κs. search needs)
     (λ c. search needs)
     (λ c κs. search needs)
-    (λ c. search needs)
     (λ c. search needs)
     (λ c. search needs)
     (λ c. search needs)

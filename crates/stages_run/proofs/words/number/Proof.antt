@@ -1,23 +1,24 @@
--- `stages_run::lines::find` is safe. Assumes nothing.
+-- `stages_run::words::number` is safe. Assumes nothing.
 use Prim.Native.Nat.{_-_}
 use lib.ListN.{length}
 use borrow.Author.Needs.{needs}
-use Rattle.stages_run.proofs.lines.find.Statement.{statement}
-use Rattle.stages_run.proofs.lines.find.Tie as tie
+use Rattle.stages_run.proofs.words.number.Statement.{statement}
+use Rattle.stages_run.proofs.words.number.Tie as tie
 
 abbrev Inv-loop : tie.InvT-loop
-Inv-loop text at byte line₀ line = Unit
+Inv-loop text at v₀ i₀ v i = Unit
 
 abbrev μ-loop : tie.MeasureT-loop
-μ-loop text at byte line₀ line = length text - line
+μ-loop text at v₀ i₀ v i = length text - i
 
-pub find-spec : {M : Type 1} → statement M
-find-spec =
+pub number-spec : {M : Type 1} → statement M
+number-spec =
     tie.close
     (tie.spec
     Inv-loop
     μ-loop
     (λ c. search needs)
+    (λ c κs. search needs)
     (λ c. search needs)
     (λ c κs. search needs)
     (λ c. search needs)

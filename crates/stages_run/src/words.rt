@@ -48,25 +48,3 @@ pub fn size(text: &[u8], at: usize, k: usize) -> usize {
     }
     number(text, word) as usize
 }
-
-// The next line, or the end of the text.
-pub fn next_line(text: &[u8], at: usize) -> usize {
-    let mut i = at;
-    while i < text.len() && text[i] != b'\n' {
-        i += 1;
-    }
-    if i < text.len() { i + 1 } else { i }
-}
-
-// The first line at or past a place that begins with this byte, or the end of the text.
-pub fn find(text: &[u8], at: usize, byte: u8) -> usize {
-    let mut line = at;
-    while line < text.len() && text[line] != byte {
-        let after = next_line(text, line);
-        if after <= line {
-            return text.len();
-        }
-        line = after;
-    }
-    line
-}
