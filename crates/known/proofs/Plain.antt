@@ -9,13 +9,13 @@ use Prim.Native.Nat.{ℕ, _≤_}
 use lib.Dec.{eqb}
 use borrow.Author.Tests.{eqb-true}
 use lib.ListN.{length}
-use Rattle.limits.specs.Book.{rules, rowWords, bodyArea}
+use Rattle.limits.specs.Book.{rowWords}
 use Rattle.sets.proofs.Logic.{and-left, and-right, and-make}
 use Rattle.grammar.specs.Bytes.{Bytes, bytes, folded}
 use Rattle.grammar.specs.Grammar.{Clause}
 use Rattle.tables.specs.Numbering.{namesOf}
 use Rattle.tables.specs.Reading.{Fits}
-use Rattle.tables.specs.Areas.{Areas, Outcome, short, tablesOf, refusal, readCall, programIn}
+use Rattle.tables.specs.Areas.{Areas, RuleTables, Outcome, countsOf, rulesOf, short, tablesOf, refusal, readCall, programIn}
 use Rattle.tables.specs.Claims.{accepted}
 use Rattle.tables.proofs.Theorems.{books-read}
 use Rattle.systems.proofs.Bridge.{tables-formed}
@@ -28,19 +28,16 @@ use Rattle.known.specs.Test.{Route, plainOn, plainHolds, answersPlain, a
 
 -- the rounds over the rules, the tables not judged
 abbrev pub unjudged : Route
-unjudged heads bodies n m model = plainOf (programIn heads bodies n m) model
+unjudged tables counts model = plainOf (programIn tables counts) model
 
 module _ (model : List ℕ) (long : rowWords ≤ length model) where
   -- on the tables of a book, the call is the rounds
   on-book : (cs : List Clause) (old : Areas) → Fits cs → short old ≡ false
-      → plainCall (tablesOf cs old .heads) (tablesOf cs old .bodies) (length (namesOf cs)) (length cs) model
-      ≡ unjudged (tablesOf cs old .heads) (tablesOf cs old .bodies) (length (namesOf cs)) (length cs) model
+      → plainCall (rulesOf (tablesOf cs old)) (countsOf cs) model ≡ unjudged (rulesOf (tablesOf cs old)) (countsOf cs) model
   on-book cs old fits s =
-      let heads : List ℕ = tablesOf cs old .heads in
-      let bodies : List ℕ = tablesOf cs old .bodies in
-      let l : (rules ≤ length heads) × (bodyArea ≤ length bodies) = book-long cs old fits s in
-      plain-good heads bodies (length (namesOf cs)) (length cs) model (long-plain heads bodies model (l .0, l .1, long))
-      (tables-formed heads bodies (length (namesOf cs)) (length cs) (book-formed cs old fits))
+      let tables : RuleTables = rulesOf (tablesOf cs old) in
+      plain-good tables (countsOf cs) model (long-plain tables model (book-long cs old fits s, long))
+      (tables-formed tables (countsOf cs) (book-formed cs old fits))
 
   -- and so on what the reader leaves where it accepts
   abbrev Alike : Outcome → Type 0

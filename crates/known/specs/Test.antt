@@ -11,7 +11,7 @@ use Rattle.sets.specs.Set.{Set, members}
 use Rattle.grammar.specs.Bytes.{Bytes, bytes, folded}
 use Rattle.grammar.specs.Lines.{run, lines}
 use Rattle.tables.specs.Numbering.{sameBytes, place}
-use Rattle.tables.specs.Areas.{Outcome, filled, nonzero, lookUp, readCall}
+use Rattle.tables.specs.Areas.{RuleTables, Counts, Outcome, rulesOf, filled, nonzero, lookUp, readCall}
 use Rattle.systems.specs.Rows.{rowIn}
 use Rattle.systems.specs.Rounds.{modelIn}
 use Rattle.solving.specs.Plain.{PlainOutcome}
@@ -53,13 +53,13 @@ holds xs r =
     && (sameNames (spelt (r .areas .tables .spellings) (r .answer .names) (modelIn (r .areas .model))) xs
     && headThen (listingIn (r .areas .listing)) xs))
 
--- A plain route: what it answers and leaves for heads, bodies, their name and rule counts, and a model area.
+-- A plain route: what it answers and leaves for rule tables, their counts and a model area.
 abbrev pub Route : Type 0
-Route = List ℕ → List ℕ → ℕ → ℕ → List ℕ → PlainOutcome
+Route = RuleTables → Counts → List ℕ → PlainOutcome
 
 -- on what the reader leaves
 abbrev pub plainOn : Route → Outcome → List ℕ → PlainOutcome
-plainOn plain o model = plain (o .areas .heads) (o .areas .bodies) (o .answer .names) (o .answer .rules) model
+plainOn plain o model = plain (rulesOf (o .areas)) (record { names = o .answer .names; rules = o .answer .rules }) model
 
 -- number 0; so many names held; the model area holds these
 unfoldable pub plainHolds : List Bytes → Outcome → PlainOutcome → Bool

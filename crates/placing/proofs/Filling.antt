@@ -17,17 +17,17 @@ use Rattle.words.specs.Row.{row, part, pack, put}
 use Rattle.words.proofs.Rows.{length-pack}
 use Rattle.program.specs.Program.{Program, WellFormed, size, headAt}
 use Rattle.program.specs.Standard as Standard
-use Rattle.program.specs.Standard.{several, hasBody, allRow, anyRow, startSet, standard}
+use Rattle.program.specs.Standard.{several, hasBody, standard}
 use Rattle.program.proofs.Homes.{home-several, home-single, home-below, helper-below, names-below}
-use Rattle.tables.specs.Areas.{programIn}
-use Rattle.systems.specs.Rows.{rowIn}
+use Rattle.tables.specs.Areas.{RuleTables, Counts, programIn}
+use Rattle.systems.specs.Rows.{RowAreas, rowIn}
 use Rattle.systems.specs.Rounds.{modelIn, withModel}
 use Rattle.systems.proofs.Formed.{exists-fewer}
 use Rattle.systems.proofs.Running.{length-model, model-same, model-joined}
 use Rattle.systems.proofs.Bridge.{size-in, head-in, body-in, formed-limits, formed-entry, formed-program}
 use Rattle.ways.specs.Ways.{severalNames}
 use Rattle.ways.proofs.Counts.{row-rule}
-use Rattle.placing.specs.Partial.{allUpTo, anyUpTo, startUpTo, withRow, withRows, Ready}
+use Rattle.placing.specs.Partial.{allUpTo, anyUpTo, startUpTo, withRow, withRows, Ready, Filled}
 use Rattle.placing.proofs.Overwriting.{rows-long, rows-kept, rows-changed, rows-joined}
 use Rattle.placing.proofs.Steps.{all-start, any-start, start-start, all-end, any-end, start-end, helper-next, helper-same, any-head, any-other, any-same, start-same, start-home, all-other, all-home, all-same}
 
@@ -62,19 +62,41 @@ pub record Housed (p : Program) (j home helper : ℕ) (any₀ any : List ℕ) : 
   pub any-long : length any ≡ length any₀
   pub any-rows : any ≡ withRows p (anyUpTo p (suc j)) any₀
 
-module _ {heads bodies marked : List ℕ} {n m : ℕ} {all₀ any₀ model₀ : List ℕ} (ready : Ready heads bodies marked n m all₀ any₀ model₀) where
+module _ {tables : RuleTables} {counts : Counts} {marked : List ℕ} {o : RowAreas} (ready : Ready tables counts marked o) where
+  abbrev heads : List ℕ
+  heads = tables .heads
+
+  abbrev bodies : List ℕ
+  bodies = tables .bodies
+
+  abbrev n : ℕ
+  n = counts .names
+
+  abbrev m : ℕ
+  m = counts .rules
+
+  -- the areas before the first rule
+  abbrev all₀ : List ℕ
+  all₀ = o .all
+
+  abbrev any₀ : List ℕ
+  any₀ = o .any
+
+  abbrev model₀ : List ℕ
+  model₀ = o .model
+
   abbrev p : Program
-  p = programIn heads bodies n m
+  p = programIn tables counts
 
   formed : WellFormed p
-  formed = formed-program heads bodies n m (ready .formed)
+  formed = formed-program tables counts (ready .formed)
 
   -- within the limits
   pub few-names : n ≤ Book.names
-  few-names = formed-limits heads bodies n m (ready .formed) .0
+  few-names = formed-limits tables counts (ready .formed) .0
 
   pub few-rules : m ≤ rules
-  few-rules = formed-limits heads bodies n m (ready .formed) .1
+  few-rules = formed-limits tables counts (ready .formed) .1
 
   pub marks-long : length marked ≡ bodyWords
   marks-long = ap length (ready .marks) ∙ length-pack bodyWords (severalNames heads m)
@@ -95,7 +117,7 @@ module _ {heads bodies marked : List ℕ} {n m : ℕ} {all₀ any₀ model₀ : 
 
   module _ {j helper c : ℕ} {all any model : List ℕ} (inv : Placed p j helper c all₀ any₀ model₀ all any model) (l : j < m) where
     in-size : j < size p
-    in-size = omega (arith, size-in heads bodies n m)
+    in-size = omega (arith, size-in tables counts)
 
     -- c so far is small
     pub c-small : c < rules
@@ -103,14 +125,14 @@ module _ {heads bodies marked : List ℕ} {n m : ℕ} {all₀ any₀ model₀ : 
 
     -- its head is a name
     pub head-small : getD heads j 0 < n
-    head-small = formed-entry heads bodies n m (ready .formed) j l .0
+    head-small = formed-entry tables counts (ready .formed) j l .0
 
     head-atom : getD heads j 0 < standard p .atoms
     head-atom = let b : n ≤ standard p .atoms = names-below p in omega (arith, head-small)
 
     -- the test for a helper
     several-test : row (part 0 bodyWords marked) (getD heads j 0) ≡ several p j
-    several-test = row-rule heads bodies n m (ready .formed) marked (ready .marks) j l
+    several-test = row-rule tables counts (ready .formed) marked (ready .marks) j l
 
     module _ {b : Bool} (test : b ≡ row (part 0 bodyWords marked) (getD heads j 0)) where
       -- the helper is an atom
@@ -126,7 +148,7 @@ module _ {heads bodies marked : List ℕ} {n m : ℕ} {all₀ any₀ model₀ : 
             → any′ ≡ new → helper′ ≡ helper + 1 → home ≡ helper → Housed p j home helper′ any₀ any′
         with-helper t e q a′ h′ d =
             let s : several p j ≡ true = sym several-test ∙ sym test ∙ t in
-            let h : headAt p j ≡ getD heads j 0 = head-in heads bodies n m j l in
+            let h : headAt p j ≡ getD heads j 0 = head-in tables counts j l in
             let rows : any′ ≡ withRows p (anyUpTo p (suc j)) any₀ =
             rows-joined p (ready .few) any₀ any (anyUpTo p j) (inv .any-rows) (getD heads j 0) helper any′ (anyUpTo p (suc j)) head-atom
             (a′ ∙ q ∙ ap (λ (k : ℕ). put k (pack rowWords (union (row (part k rowWords any)) (only helper))) any) e)
@@ -136,7 +158,7 @@ module _ {heads bodies marked : List ℕ} {n m : ℕ} {all₀ any₀ model₀ : 
             in record {
               here = d ∙ inv .next ∙ sym (home-several p j s);
               next = h′ ∙ ap (λ (x : ℕ). x + 1) (inv .next) ∙ sym (helper-next p j s);
-              any-long = rows-long p (ready .few) any₀ any′ (anyUpTo p (suc j)) rows (ready .any-long);
+              any-long = rows-long p (ready .few) any₀ any′ (anyUpTo p (suc j)) rows (ready .long .1 .1);
               any-rows = rows;
             }
 
@@ -144,7 +166,7 @@ module _ {heads bodies marked : List ℕ} {n m : ℕ} {all₀ any₀ model₀ : 
         pub without-helper : b ≡ false → any′ ≡ any → helper′ ≡ helper → home ≡ getD heads j 0 → Housed p j home helper′ any₀ any′
         without-helper t a′ h′ d =
             let s : several p j ≡ false = sym several-test ∙ sym test ∙ t in record {
-              here = d ∙ sym (home-single p j s ∙ head-in heads bodies n m j l);
+              here = d ∙ sym (home-single p j s ∙ head-in tables counts j l);
               next = h′ ∙ inv .next ∙ sym (helper-same p j s);
               any-long = ap length a′ ∙ inv .any-long;
               any-rows = rows-kept p (ready .few) any₀ any′ (anyUpTo p j) (a′ ∙ inv .any-rows) (anyUpTo p (suc j)) (any-same p j s);
@@ -162,8 +184,8 @@ module _ {heads bodies marked : List ℕ} {n m : ℕ} {all₀ any₀ model₀ : 
         unfolding hasBody
         body-test =
             test
-            ∙ exists-fewer (bodyWords * wordBits) n (rowIn bodyWords bodies j) few-names (formed-entry heads bodies n m (ready .formed) j l .1)
-            ∙ ap (exists n) (sym (body-in heads bodies n m j l))
+            ∙ exists-fewer (bodyWords * wordBits) n (rowIn bodyWords bodies j) few-names (formed-entry tables counts (ready .formed) j l .1)
+            ∙ ap (exists n) (sym (body-in tables counts j l))
 
         -- the areas past rule j
         placed-next : {c′ : ℕ} → c′ ≡ count (suc j) (hasBody p) → all′ ≡ withRows p (allUpTo p (suc j)) all₀
@@ -174,9 +196,9 @@ module _ {heads bodies marked : List ℕ} {n m : ℕ} {all₀ any₀ model₀ : 
               in-rules = in-size;
               next = housed .next;
               counted = counted;
-              all-long = rows-long p (ready .few) all₀ all′ (allUpTo p (suc j)) rows (ready .all-long);
+              all-long = rows-long p (ready .few) all₀ all′ (allUpTo p (suc j)) rows (ready .long .1 .0);
               any-long = housed .any-long;
-              model-long = ap length set ∙ length-model (startUpTo p (suc j)) model₀ (ready .model-long);
+              model-long = ap length set ∙ length-model (startUpTo p (suc j)) model₀ (ready .long .1 .2);
               all-rows = rows;
               any-rows = housed .any-rows;
               start = set;
@@ -190,7 +212,7 @@ module _ {heads bodies marked : List ℕ} {n m : ℕ} {all₀ any₀ model₀ : 
             (rows-changed p (ready .few) all₀ all (allUpTo p j) (inv .all-rows) (Standard.home p j) (rowIn bodyWords bodies j) all′
             (allUpTo p (suc j)) (home-below p formed j in-size)
             (written ∙ pick-true _ _ t ∙ ap (λ (i : ℕ). withRow i (rowIn bodyWords bodies j) all) (housed .here))
-            (λ a d. all-home p formed j in-size h a ∙ ap (λ (f : Set). f a) (body-in heads bodies n m j l)) (all-other p j))
+            (λ a d. all-home p formed j in-size h a ∙ ap (λ (f : Set). f a) (body-in tables counts j l)) (all-other p j))
             (start-kept (startUpTo p j) (startUpTo p (suc j)) model₀ model′ (joined ∙ pick-true _ _ t ∙ inv .start) (start-same p j h))
 
         -- a rule without one
@@ -206,16 +228,12 @@ module _ {heads bodies marked : List ℕ} {n m : ℕ} {all₀ any₀ model₀ : 
   -- after the last rule
   module _ {j helper c : ℕ} {all any model : List ℕ} (inv : Placed p j helper c all₀ any₀ model₀ all any model) (l : m ≤ j) where
     last : j ≡ size p
-    last = le-antisymm (inv .in-rules) (omega (arith, size-in heads bodies n m))
+    last = le-antisymm (inv .in-rules) (omega (arith, size-in tables counts))
 
-    pub placed-c : c ≡ count m (hasBody p)
-    placed-c = inv .counted ∙ ap (λ (k : ℕ). count k (hasBody p)) (last ∙ size-in heads bodies n m)
-
-    pub placed-all : all ≡ withRows p (allRow p) all₀
-    placed-all = inv .all-rows ∙ ap (λ (rows : ℕ → Set). withRows p rows all₀) (all-end p j last)
-
-    pub placed-any : any ≡ withRows p (anyRow p) any₀
-    placed-any = inv .any-rows ∙ ap (λ (rows : ℕ → Set). withRows p rows any₀) (any-end p j last)
-
-    pub placed-model : model ≡ withModel (startSet p) model₀
-    placed-model = inv .start ∙ ap (λ (f : Set). withModel f model₀) (start-end p j last)
+    pub placed-all : Filled p c o (record { all = all; any = any; model = model })
+    placed-all = record {
+      counted = inv .counted ∙ ap (λ (k : ℕ). count k (hasBody p)) last;
+      all-rows = inv .all-rows ∙ ap (λ (rows : ℕ → Set). withRows p rows all₀) (all-end p j last);
+      any-rows = inv .any-rows ∙ ap (λ (rows : ℕ → Set). withRows p rows any₀) (any-end p j last);
+      start-row = inv .start ∙ ap (λ (f : Set). withModel f model₀) (start-end p j last);
+    }

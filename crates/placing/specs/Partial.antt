@@ -6,17 +6,17 @@ use mathlib.Core.Bool.{true, not, _&&_}
 use mathlib.Core.List.{List}
 use Prim.Native.Nat.{ℕ, _*_, _≤_}
 use lib.Dec.{eqb}
-use lib.ListN.{length}
-use Rattle.limits.specs.Book.{atoms, rules, rowWords, bodyWords, bodyArea, rowArea}
-use Rattle.sets.specs.Set.{Set, pick, exists, only, image, emptySet}
+use Rattle.limits.specs.Book.{atoms, rowWords, bodyWords}
+use Rattle.sets.specs.Set.{Set, pick, exists, count, only, image, emptySet}
 use Rattle.words.specs.Row.{pack, put}
-use Rattle.program.specs.Program.{Program, headAt, bodyAt}
-use Rattle.program.specs.Standard.{several, helper, home, hasBody, standard}
-use Rattle.tables.specs.Areas.{programIn}
+use Rattle.program.specs.Program.{Program, size, headAt, bodyAt}
+use Rattle.program.specs.Standard.{several, helper, home, hasBody, allRow, anyRow, startSet, standard}
+use Rattle.tables.specs.Areas.{RuleTables, Counts, programIn}
 use Rattle.tables.specs.Begun.{begun}
-use Rattle.systems.specs.Rows.{packed}
+use Rattle.systems.specs.Rows.{RowAreas, packed}
 use Rattle.systems.specs.Rounds.{withModel}
 use Rattle.systems.specs.Standardise.{formedTables}
+use Rattle.systems.specs.Claims.{StandardLong}
 use Rattle.ways.specs.Ways.{severalNames}
 
 -- the "all" rows: a body where one of the first j rules has it, else the atom alone
@@ -40,15 +40,18 @@ abbrev pub withRows : Program → (ℕ → Set) → List ℕ → List ℕ
 withRows p rows area = begun (packed rowWords (standard p .atoms) rows) area
 
 -- Tables in order, with the names that have several rules marked, and the rows before any rule is placed.
-pub record Ready (heads bodies marked : List ℕ) (n m : ℕ) (all any model : List ℕ) : Type 0 where
-  pub formed : formedTables heads bodies n m ≡ true
-  pub few : standard (programIn heads bodies n m) .atoms ≤ atoms
-  pub heads-long : rules ≤ length heads
-  pub bodies-long : bodyArea ≤ length bodies
-  pub all-long : rowArea ≤ length all
-  pub any-long : rowArea ≤ length any
-  pub model-long : rowWords ≤ length model
-  pub marks : marked ≡ pack bodyWords (severalNames heads m)
-  pub all-rows : all ≡ withRows (programIn heads bodies n m) only all
-  pub any-rows : any ≡ withRows (programIn heads bodies n m) (λ i. emptySet) any
-  pub start-row : model ≡ withModel emptySet model
+pub record Ready (tables : RuleTables) (counts : Counts) (marked : List ℕ) (o : RowAreas) : Type 0 where
+  pub formed : formedTables tables counts ≡ true
+  pub few : standard (programIn tables counts) .atoms ≤ atoms
+  pub long : StandardLong tables o
+  pub marks : marked ≡ pack bodyWords (severalNames (tables .heads) (counts .rules))
+  pub all-rows : o .all ≡ withRows (programIn tables counts) only (o .all)
+  pub any-rows : o .any ≡ withRows (programIn tables counts) (λ i. emptySet) (o .any)
+  pub start-row : o .model ≡ withModel emptySet (o .model)
+
+-- All rules of a program placed: c, its rows and its start set, over what the areas had before.
+pub record Filled (p : Program) (c : ℕ) (old new : RowAreas) : Type 0 where
+  pub counted : c ≡ count (size p) (hasBody p)
+  pub all-rows : new .all ≡ withRows p (allRow p) (old .all)
+  pub any-rows : new .any ≡ withRows p (anyRow p) (old .any)
+  pub start-row : new .model ≡ withModel (startSet p) (old .model)

@@ -6,13 +6,12 @@ ghost use Prim.Native.Nat.{_*_, _<_, _≤_};
 ghost use lib.ListN.{length};
 ghost use Rattle.limits.specs.Book.{rules, atoms, wordBits, rowWords, bodyWords, bodyArea, rowArea};
 ghost use Rattle.rows.specs.Clear.{Clear};
-ghost use Rattle.sets.specs.Set.{pick, exists, count, only, union, emptySet};
-ghost use Rattle.program.specs.Standard.{hasBody, allRow, anyRow, startSet};
+ghost use Rattle.sets.specs.Set.{pick, exists, only, union, emptySet};
 ghost use Rattle.tables.specs.Areas.{filled, programIn};
 ghost use Rattle.tables.specs.Begun.{begun};
 ghost use Rattle.systems.specs.Rows.{rowIn, packed};
 ghost use Rattle.systems.specs.Rounds.{modelIn, withModel};
-ghost use Rattle.placing.specs.Partial.{withRow, withRows, Ready};
+ghost use Rattle.placing.specs.Partial.{withRow, Ready, Filled};
 
 // Each of the first `count` rows is its own atom alone.
 fn alone(all: &mut [u64], count: usize)
@@ -47,10 +46,13 @@ pub fn begin(count: usize, all: &mut [u64], any: &mut [u64], model: &mut [u64], 
 
 // Rule j at its home: its body becomes the home's row; where it has none, the home joins the start set. Returns whether it has a body.
 fn place(bodies: &[u64], j: usize, home: usize, all: &mut [u64], model: &mut [u64]) -> bool
-    requires { ⌜ (j < rules) × (home < atoms) × (bodyArea ≤ length (now bodies)) × (rowArea ≤ length (now all)) × (rowWords ≤ length (now model)) ⌝ }
+    requires { ⌜ (j < rules) × (home < atoms) × (bodyArea ≤ length (now bodies)) × (rowArea ≤ length (now all))
+        × (rowWords ≤ length (now model)) ⌝ }
     ensures body { λ r. ⌜ r ≡ exists (bodyWords * wordBits) (rowIn bodyWords (now (bodies .entry)) j) ⌝ }
-    ensures all { λ r. ⌜ now (all .exit) ≡ pick r (withRow home (rowIn bodyWords (now (bodies .entry)) j) (now (all .entry))) (now (all .entry)) ⌝ }
-    ensures model { λ r. ⌜ now (model .exit) ≡ pick r (now (model .entry)) (withModel (union (modelIn (now (model .entry))) (only home)) (now (model .entry))) ⌝ }
+    ensures all { λ r. ⌜ now (all .exit)
+        ≡ pick r (withRow home (rowIn bodyWords (now (bodies .entry)) j) (now (all .entry))) (now (all .entry)) ⌝ }
+    ensures model { λ r. ⌜ now (model .exit)
+        ≡ pick r (now (model .entry)) (withModel (union (modelIn (now (model .entry))) (only home)) (now (model .entry))) ⌝ }
 {
     let from = Book::body_at(j);
     if rows::read::empty(bodies, from, Book::BODY_WORDS) {
@@ -74,11 +76,12 @@ pub fn fill(
     any: &mut [u64],
     model: &mut [u64],
 ) -> usize
-    requires { ⌜ Ready (now heads) (now bodies) (now several) n m (now all) (now any) (now model) ⌝ }
-    ensures c { λ r. ⌜ r ≡ count m (hasBody (programIn (now (heads .entry)) (now (bodies .entry)) n m)) ⌝ }
-    ensures all { λ r. ⌜ now (all .exit) ≡ withRows (programIn (now (heads .entry)) (now (bodies .entry)) n m) (allRow (programIn (now (heads .entry)) (now (bodies .entry)) n m)) (now (all .entry)) ⌝ }
-    ensures any { λ r. ⌜ now (any .exit) ≡ withRows (programIn (now (heads .entry)) (now (bodies .entry)) n m) (anyRow (programIn (now (heads .entry)) (now (bodies .entry)) n m)) (now (any .entry)) ⌝ }
-    ensures model { λ r. ⌜ now (model .exit) ≡ withModel (startSet (programIn (now (heads .entry)) (now (bodies .entry)) n m)) (now (model .entry)) ⌝ }
+    requires { ⌜ Ready (record { heads = now heads; bodies = now bodies }) (record { names = n; rules = m }) (now several)
+        (record { all = now all; any = now any; model = now model }) ⌝ }
+    ensures { λ r. ⌜ Filled
+        (programIn (record { heads = now (heads .entry); bodies = now (bodies .entry) }) (record { names = n; rules = m })) r
+        (record { all = now (all .entry); any = now (any .entry); model = now (model .entry) })
+        (record { all = now (all .exit); any = now (any .exit); model = now (model .exit) }) ⌝ }
 {
     let mut helper = n;
     let mut c = 0;

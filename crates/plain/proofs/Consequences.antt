@@ -16,7 +16,7 @@ use Rattle.sets.proofs.Counting.{image-find}
 use Rattle.rows.specs.Clear.{cleared}
 use Rattle.program.specs.Program.{Program, headAt, bodyAt, consequence}
 use Rattle.program.proofs.Plain.{consequence-mono}
-use Rattle.tables.specs.Areas.{programIn}
+use Rattle.tables.specs.Areas.{RuleTables, Counts, programIn}
 use Rattle.systems.specs.Rows.{rowIn, below}
 use Rattle.systems.specs.Rounds.{modelIn, withModel}
 use Rattle.systems.specs.Standardise.{formedTables}
@@ -46,38 +46,50 @@ joined-none f old new next e d =
     ∙ ap (withModel f) e ∙ model-again f emptySet old
 
 -- tables in order
-module _ (heads bodies : List ℕ) (n m : ℕ) (formed : formedTables heads bodies n m ≡ true) where
+module _ (tables : RuleTables) (counts : Counts) (formed : formedTables tables counts ≡ true) where
+  abbrev heads : List ℕ
+  heads = tables .heads
+
+  abbrev bodies : List ℕ
+  bodies = tables .bodies
+
+  abbrev n : ℕ
+  n = counts .names
+
+  abbrev m : ℕ
+  m = counts .rules
+
   abbrev p : Program
-  p = programIn heads bodies n m
+  p = programIn tables counts
 
   abbrev step : List ℕ → Set
-  step v = headsFrom heads bodies m (modelIn v)
+  step v = headsFrom tables m (modelIn v)
 
   -- the rules are within their limit
   pub few-rules : m ≤ rules
-  few-rules = formed-limits heads bodies n m formed .1
+  few-rules = formed-limits tables counts formed .1
 
   -- a round with each body taken whole gives the consequences
-  pub heads-are : (v : Set) (a : ℕ) → headsFrom heads bodies m v a ≡ consequence p v a
+  pub heads-are : (v : Set) (a : ℕ) → headsFrom tables m v a ≡ consequence p v a
   unfolding headsFrom image consequence
   heads-are v a =
       let whole : Set = λ j. eqb (getD heads j 0) a && within (bodyWords * wordBits) (rowIn bodyWords bodies j) v in
       let among : Set = λ j. eqb (headAt p j) a && within n (bodyAt p j) v in
       let same-rule : Same m whole among =
       λ j l.
-      ap₂ (λ (x y : Bool). x && y) (ap (λ (k : ℕ). eqb k a) (sym (head-in heads bodies n m j l)))
-      (within-fewer (bodyWords * wordBits) n (rowIn bodyWords bodies j) v (formed-limits heads bodies n m formed .0) (formed-entry heads bodies n m formed j l .1)
-      ∙ ap (λ (f : Set). within n f v) (sym (body-in heads bodies n m j l)))
+      ap₂ (λ (x y : Bool). x && y) (ap (λ (k : ℕ). eqb k a) (sym (head-in tables counts j l)))
+      (within-fewer (bodyWords * wordBits) n (rowIn bodyWords bodies j) v (formed-limits tables counts formed .0) (formed-entry tables counts formed j l .1)
+      ∙ ap (λ (f : Set). within n f v) (sym (body-in tables counts j l)))
       in
-      exists-same m whole among same-rule ∙ ap (λ (k : ℕ). exists k among) (sym (size-in heads bodies n m))
+      exists-same m whole among same-rule ∙ ap (λ (k : ℕ). exists k among) (sym (size-in tables counts))
 
   -- they have nothing at or past n
-  pub heads-end : (v : Set) → Ends n (headsFrom heads bodies m v)
+  pub heads-end : (v : Set) → Ends n (headsFrom tables m v)
   unfolding headsFrom
   heads-end v a l =
-      not-true (headsFrom heads bodies m v a) (λ t.
+      not-true (headsFrom tables m v a) (λ t.
       let q = image-find m (λ j. getD heads j 0) (λ j. within (bodyWords * wordBits) (rowIn bodyWords bodies j) v) a t in
-      let b : getD heads (q .0) 0 < n = formed-entry heads bodies n m formed (q .0) (q .1) .0 in
+      let b : getD heads (q .0) 0 < n = formed-entry tables counts formed (q .0) (q .1) .0 in
       let e : getD heads (q .0) 0 ≡ a = q .2 in
       omega arith)
 
@@ -90,7 +102,7 @@ module _ (heads bodies : List ℕ) (n m : ℕ) (formed : formedTables heads bodi
   -- the rounds rise from the empty set
   pub stepping : Stepping n (consequence p) emptySet step
   stepping = record {
-    few = omega (arith, formed-limits heads bodies n m formed .0);
+    few = omega (arith, formed-limits tables counts formed .0);
     mono = consequence-mono p;
     rises = λ i l e. clash e refl;
     steps = λ v i l. heads-are (modelIn v) i;

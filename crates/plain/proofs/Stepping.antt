@@ -15,6 +15,7 @@ use Rattle.sets.proofs.Counting.{image-out, image-in}
 use Rattle.words.specs.Row.{row, part, pack, put}
 use Rattle.words.proofs.Rows.{row-part}
 use Rattle.rows.proofs.Reading.{Known, in-range}
+use Rattle.tables.specs.Areas.{RuleTables}
 use Rattle.systems.specs.Rows.{rowIn}
 use Rattle.systems.specs.Rounds.{modelIn, withModel}
 use Rattle.systems.proofs.Running.{length-model, model-same, model-known, model-joined, model-put}
@@ -34,10 +35,10 @@ body-test bodies v j at r e h =
     ∙ within-same (bodyWords * wordBits) (rowIn bodyWords bodies j) (rowIn bodyWords bodies j) (row (part 0 bodyWords v)) (modelIn v) (λ a l. refl) (front v)
 
 -- `next` after the rules below j, in the area `new`
-module _ (heads bodies v new : List ℕ) where
+module _ (tables : RuleTables) (v new : List ℕ) where
   -- what the set there has then
   abbrev joined : ℕ → Set
-  joined j = union (modelIn new) (headsFrom heads bodies j (modelIn v))
+  joined j = union (modelIn new) (headsFrom tables j (modelIn v))
 
   -- before the first rule
   pub step-none : Known new → rowWords ≤ length new → new ≡ withModel (joined 0) new
@@ -56,12 +57,12 @@ module _ (heads bodies v new : List ℕ) where
 
   -- r is whether rule j's body lies in v
   module _ (next : List ℕ) (j : ℕ) (e : next ≡ withModel (joined j) new) (r : Bool)
-      (g : r ≡ within (bodyWords * wordBits) (rowIn bodyWords bodies j) (modelIn v)) where
+      (g : r ≡ within (bodyWords * wordBits) (rowIn bodyWords (tables .bodies) j) (modelIn v)) where
     abbrev head : ℕ → ℕ
-    head i = getD heads i 0
+    head i = getD (tables .heads) i 0
 
     abbrev lies : Set
-    lies i = within (bodyWords * wordBits) (rowIn bodyWords bodies i) (modelIn v)
+    lies i = within (bodyWords * wordBits) (rowIn bodyWords (tables .bodies) i) (modelIn v)
 
     -- where it does not, its head does not join
     pub step-out : r ≡ false → next ≡ withModel (joined (j + 1)) new
@@ -71,7 +72,7 @@ module _ (heads bodies v new : List ℕ) where
         (λ a b. ap (λ (t : Bool). modelIn new a || t) (sym (ap (λ (k : ℕ). image k head lies a) (add-one j) ∙ image-out j head lies a (sym g ∙ h))))
 
     -- where it does, the head joins
-    pub step-in : (more : List ℕ) → r ≡ true → more ≡ put 0 (pack rowWords (union (modelIn next) (only (getD heads j 0)))) next
+    pub step-in : (more : List ℕ) → r ≡ true → more ≡ put 0 (pack rowWords (union (modelIn next) (only (getD (tables .heads) j 0)))) next
         → more ≡ withModel (joined (j + 1)) new
     unfolding headsFrom
     step-in more h n =

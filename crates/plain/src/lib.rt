@@ -20,7 +20,7 @@ pub struct Answer {
 
 // Whether an area is shorter than its stated size.
 fn too_short(heads: &[u16], bodies: &[u64], model: &[u64]) -> bool
-    ensures { λ r. ⌜ r ≡ shortPlain (now (heads .entry)) (now (bodies .entry)) (now (model .entry)) ⌝ }
+    ensures { λ r. ⌜ r ≡ shortPlain (record { heads = now (heads .entry); bodies = now (bodies .entry) }) (now (model .entry)) ⌝ }
 {
     if heads.len() < Book::RULES {
         return true;
@@ -33,8 +33,11 @@ fn too_short(heads: &[u16], bodies: &[u64], model: &[u64]) -> bool
 
 // The heads of the first m rules whose body lies in v join `next`.
 fn step(heads: &[u16], bodies: &[u64], m: usize, v: &[u64], next: &mut [u64])
-    requires { ⌜ (m ≤ rules) × PlainLong (now heads) (now bodies) (now v) × (rowWords ≤ length (now next)) × ((j : ℕ) → j < m → getD (now heads) j 0 < names) ⌝ }
-    ensures { λ r. ⌜ now (next .exit) ≡ withModel (union (modelIn (now (next .entry))) (headsFrom (now (heads .entry)) (now (bodies .entry)) m (modelIn (now (v .entry))))) (now (next .entry)) ⌝ }
+    requires { ⌜ (m ≤ rules) × PlainLong (record { heads = now heads; bodies = now bodies }) (now v) × (rowWords ≤ length (now next))
+        × ((j : ℕ) → j < m → getD (now heads) j 0 < names) ⌝ }
+    ensures { λ r. ⌜ now (next .exit) ≡ withModel (union (modelIn (now (next .entry)))
+        (headsFrom (record { heads = now (heads .entry); bodies = now (bodies .entry) }) m (modelIn (now (v .entry)))))
+        (now (next .entry)) ⌝ }
 {
     let mut j = 0;
     while j < m {
@@ -47,7 +50,9 @@ fn step(heads: &[u16], bodies: &[u64], m: usize, v: &[u64], next: &mut [u64])
 
 // Makes the rounds over the first m rules of n names, from the empty set, and leaves the last set in the model area; a refusal leaves it as it was.
 pub fn run(heads: &[u16], bodies: &[u64], n: usize, m: usize, model: &mut [u64]) -> Answer
-    ensures { λ r. ⌜ record { number = r .number; held = r .held; rounds = r .rounds; model = now (model .exit) } ≡ plainCall (now (heads .entry)) (now (bodies .entry)) n m (now (model .entry)) ⌝ }
+    ensures { λ r. ⌜ record { number = r .number; held = r .held; rounds = r .rounds; model = now (model .exit) }
+        ≡ plainCall (record { heads = now (heads .entry); bodies = now (bodies .entry) }) (record { names = n; rules = m })
+        (now (model .entry)) ⌝ }
 {
     if too_short(heads, bodies, model) {
         return Answer {

@@ -9,18 +9,18 @@ use lib.ListN.{length}
 use Rattle.limits.specs.Book.{atoms, rowWords}
 use Rattle.sets.specs.Set.{Set}
 use Rattle.program.specs.System.{round}
-use Rattle.systems.specs.Rows.{below}
+use Rattle.systems.specs.Rows.{RowAreas, below}
 use Rattle.systems.specs.Rounds.{modelIn, withModel, systemIn, formedSystem, startKept}
 use Rattle.systems.specs.Claims.{RoundsLong}
 
 -- the set after the one in a model area, each row taken whole
 unfoldable pub nextSet : List ℕ → List ℕ → List ℕ → Set
-nextSet all any v = round (systemIn all any v atoms) (modelIn v)
+nextSet all any v = round (systemIn (record { all = all; any = any; model = v }) atoms) (modelIn v)
 
 -- The rounds may go on from round one: areas long enough, rows and start set in order, no start atom lost, and in `next` what round one makes.
-pub record Ready (all any model next : List ℕ) (m : ℕ) : Type 0 where
-  pub long : RoundsLong all any model
+pub record Ready (o : RowAreas) (next : List ℕ) (m : ℕ) : Type 0 where
+  pub long : RoundsLong o
   pub room : rowWords ≤ length next
-  pub formed : formedSystem all any model m ≡ true
-  pub kept : startKept (systemIn all any model m) ≡ true
-  pub made : next ≡ withModel (below m (nextSet all any model)) next
+  pub formed : formedSystem o m ≡ true
+  pub kept : startKept (systemIn o m) ≡ true
+  pub made : next ≡ withModel (below m (nextSet (o .all) (o .any) (o .model))) next

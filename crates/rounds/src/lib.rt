@@ -20,7 +20,7 @@ pub struct Answer {
 
 // Whether an area is shorter than its stated size.
 fn too_short(all: &[u64], any: &[u64], model: &[u64]) -> bool
-    ensures { λ r. ⌜ r ≡ shortSystem (now (all .entry)) (now (any .entry)) (now (model .entry)) ⌝ }
+    ensures { λ r. ⌜ r ≡ shortSystem (record { all = now (all .entry); any = now (any .entry); model = now (model .entry) }) ⌝ }
 {
     if all.len() < Book::ROW_AREA {
         return true;
@@ -33,8 +33,8 @@ fn too_short(all: &[u64], any: &[u64], model: &[u64]) -> bool
 
 // Whether the count is within its limit, and neither a bit, of the start set too, nor a row lies at or past it.
 fn well_formed(all: &[u64], any: &[u64], model: &[u64], m: usize) -> bool
-    requires { ⌜ RoundsLong (now all) (now any) (now model) ⌝ }
-    ensures { λ r. ⌜ r ≡ formedSystem (now (all .entry)) (now (any .entry)) (now (model .entry)) m ⌝ }
+    requires { ⌜ RoundsLong (record { all = now all; any = now any; model = now model }) ⌝ }
+    ensures { λ r. ⌜ r ≡ formedSystem (record { all = now (all .entry); any = now (any .entry); model = now (model .entry) }) m ⌝ }
 {
     if !rowcheck::formed(all, m) {
         return false;
@@ -47,7 +47,7 @@ fn well_formed(all: &[u64], any: &[u64], model: &[u64], m: usize) -> bool
 
 // Whether atom i is in the set after v: an "any" row that is not empty has to meet v, else the "all" row to lie within it.
 fn joins(all: &[u64], any: &[u64], v: &[u64], i: usize) -> bool
-    requires { ⌜ (i < atoms) × RoundsLong (now all) (now any) (now v) ⌝ }
+    requires { ⌜ (i < atoms) × RoundsLong (record { all = now all; any = now any; model = now v }) ⌝ }
     ensures { λ r. ⌜ r ≡ nextSet (now (all .entry)) (now (any .entry)) (now (v .entry)) i ⌝ }
 {
     let at = Book::row_at(i);
@@ -59,8 +59,9 @@ fn joins(all: &[u64], any: &[u64], v: &[u64], i: usize) -> bool
 
 // One round over the first m atoms: `next` gets the set after v.
 fn step(all: &[u64], any: &[u64], v: &[u64], next: &mut [u64], m: usize)
-    requires { ⌜ (m ≤ atoms) × RoundsLong (now all) (now any) (now v) × (rowWords ≤ length (now next)) ⌝ }
-    ensures { λ r. ⌜ now (next .exit) ≡ withModel (below m (nextSet (now (all .entry)) (now (any .entry)) (now (v .entry)))) (now (next .entry)) ⌝ }
+    requires { ⌜ (m ≤ atoms) × RoundsLong (record { all = now all; any = now any; model = now v }) × (rowWords ≤ length (now next)) ⌝ }
+    ensures { λ r. ⌜ now (next .exit)
+        ≡ withModel (below m (nextSet (now (all .entry)) (now (any .entry)) (now (v .entry)))) (now (next .entry)) ⌝ }
 {
     rows::clear::clear_tail64(next, 0, Book::ROW_WORDS);
     let mut i = 0;
@@ -74,10 +75,13 @@ fn step(all: &[u64], any: &[u64], v: &[u64], next: &mut [u64], m: usize)
 
 // The rounds from the model area on, `next` being the set after it: counted up to and with the first that changes nothing.
 fn until_still(all: &[u64], any: &[u64], model: &mut [u64], next: &mut [u64], m: usize) -> usize
-    requires { ⌜ Ready (now all) (now any) (now model) (now next) m ⌝ }
-    ensures rounds { λ r. ⌜ r ≡ roundsOf (systemIn (now (all .entry)) (now (any .entry)) (now (model .entry)) m) ⌝ }
-    ensures model { λ r. ⌜ now (model .exit) ≡ withModel (below m (heldBy (systemIn (now (all .entry)) (now (any .entry)) (now (model .entry)) m))) (now (model .entry)) ⌝ }
-    ensures next { λ r. ⌜ now (next .exit) ≡ withModel (below m (heldBy (systemIn (now (all .entry)) (now (any .entry)) (now (model .entry)) m))) (now (next .entry)) ⌝ }
+    requires { ⌜ Ready (record { all = now all; any = now any; model = now model }) (now next) m ⌝ }
+    ensures rounds { λ r. ⌜ r
+        ≡ roundsOf (systemIn (record { all = now (all .entry); any = now (any .entry); model = now (model .entry) }) m) ⌝ }
+    ensures model { λ r. ⌜ now (model .exit) ≡ withModel (below m (heldBy
+        (systemIn (record { all = now (all .entry); any = now (any .entry); model = now (model .entry) }) m))) (now (model .entry)) ⌝ }
+    ensures next { λ r. ⌜ now (next .exit) ≡ withModel (below m (heldBy
+        (systemIn (record { all = now (all .entry); any = now (any .entry); model = now (model .entry) }) m))) (now (next .entry)) ⌝ }
 {
     let mut count = 1;
     while !rows::read::equal(model, 0, next, 0, Book::ROW_WORDS) {
@@ -91,8 +95,10 @@ fn until_still(all: &[u64], any: &[u64], model: &mut [u64], next: &mut [u64], m:
 // Makes the rounds over the first m atoms, from the start set in the model area, and leaves the last set there; a lost start atom leaves it
 // as it was. For a caller that knows rows and start set to be in order, as after standardising: they are not judged again.
 pub fn run_formed(all: &[u64], any: &[u64], model: &mut [u64], m: usize) -> Answer
-    requires { ⌜ RoundsLong (now all) (now any) (now model) × (formedSystem (now all) (now any) (now model) m ≡ true) ⌝ }
-    ensures { λ r. ⌜ record { number = r .number; rounds = r .rounds; model = now (model .exit) } ≡ roundsCall (now (all .entry)) (now (any .entry)) (now (model .entry)) m ⌝ }
+    requires { ⌜ RoundsLong (record { all = now all; any = now any; model = now model })
+        × (formedSystem (record { all = now all; any = now any; model = now model }) m ≡ true) ⌝ }
+    ensures { λ r. ⌜ record { number = r .number; rounds = r .rounds; model = now (model .exit) }
+        ≡ roundsCall (record { all = now (all .entry); any = now (any .entry); model = now (model .entry) }) m ⌝ }
 {
     let mut next = [0u64; Book::ROW_WORDS];
     step(all, any, model, &mut next, m);
@@ -108,7 +114,8 @@ pub fn run_formed(all: &[u64], any: &[u64], model: &mut [u64], m: usize) -> Answ
 
 // Judges rows and start set, then makes the rounds; a refusal leaves the model area as it was.
 pub fn run(all: &[u64], any: &[u64], model: &mut [u64], m: usize) -> Answer
-    ensures { λ r. ⌜ record { number = r .number; rounds = r .rounds; model = now (model .exit) } ≡ roundsCall (now (all .entry)) (now (any .entry)) (now (model .entry)) m ⌝ }
+    ensures { λ r. ⌜ record { number = r .number; rounds = r .rounds; model = now (model .exit) }
+        ≡ roundsCall (record { all = now (all .entry); any = now (any .entry); model = now (model .entry) }) m ⌝ }
 {
     if too_short(all, any, model) {
         return Answer {

@@ -22,17 +22,17 @@ use Rattle.grammar.specs.Grammar.{Clause}
 use Rattle.grammar.proofs.Folding.{folding}
 use Rattle.tables.specs.Numbering.{namesOf, programOf}
 use Rattle.tables.specs.Reading.{Reading, read, refused, Fits, bookOf, reading}
-use Rattle.tables.specs.Areas.{Areas, Outcome, short, filled, nameRows, filledWith, tablesOf, refusal, outcome, readCall, namesIn}
+use Rattle.tables.specs.Areas.{Areas, RuleTables, Counts, Outcome, countsOf, rulesOf, short, filled, nameRows, filledWith, tablesOf, refusal, outcome, readCall, namesIn}
 use Rattle.tables.proofs.Numbering.{numbers}
 use Rattle.tables.proofs.Calls.{refusal-range}
 use Rattle.tables.proofs.Judging.{reading-short}
 use Rattle.tables.proofs.Encoding.{length-nameRows, length-filled, names-filled}
 use Rattle.tables.proofs.Theorems.{judged, read-fits, read-fine}
-use Rattle.systems.specs.Rows.{packed, below, formedRows}
+use Rattle.systems.specs.Rows.{RowAreas, packed, below, formedRows}
 use Rattle.systems.specs.Fold.{FoldOutcome, shortRows, foldedArea, foldCall}
 use Rattle.systems.specs.Rounds.{RoundsOutcome, modelIn, withModel, formedSystem, roundsCall}
-use Rattle.systems.specs.Standardise.{RowAreas, StandardOutcome, formedTables, standardRefusal, standardRows, standardOf, standardCall}
-use Rattle.systems.specs.Claims.{FoldLong, FoldFormed, RoundsLong, StandardLong}
+use Rattle.systems.specs.Standardise.{StandardOutcome, formedTables, standardRefusal, standardRows, standardOf, standardCall}
+use Rattle.systems.specs.Claims.{FoldLong, FoldFormed, RoundsLong, TablesLong, StandardLong}
 use Rattle.systems.proofs.Formed.{formed-make}
 use Rattle.systems.proofs.Folds.{rows-short, formed-all, fold-good, folds-rows}
 use Rattle.systems.proofs.Bridge.{tables-formed}
@@ -227,22 +227,30 @@ module _ (t : Bytes) (k : ℕ) (spellings : Bytes) (heads bodies all any spare m
       well : WellFormed p
       well = numbers (book .cs) .formed
 
+      -- the rule tables and the counts that the reader leaves, which are the book's
+      abbrev rules₁ : RuleTables
+      rules₁ = rulesOf tables₁
+
+      abbrev counts : Counts
+      counts = record { names = n; rules = m }
+
+      rules-left : rules₁ ≡ rulesOf (tablesOf (book .cs) tables)
+      rules-left = ap rulesOf (book .left)
+
+      counts-are : counts ≡ countsOf (book .cs)
+      counts-are i = record { names = book .names-are i; rules = book .rules-are i }
+
       -- the tables are long enough and in order
-      pub standard-ready : StandardLong heads₁ bodies₁ rows × (formedTables heads₁ bodies₁ n m ≡ true)
-      standard-ready =
-          let l = book-long (book .cs) tables fits (long-tables old long) in
-          let as-heads : length heads₁ ≡ length (tablesOf (book .cs) tables .heads) = ap (λ (o : Areas). length (o .heads)) (book .left) in
-          let as-bodies : length bodies₁ ≡ length (tablesOf (book .cs) tables .bodies) = ap (λ (o : Areas). length (o .bodies)) (book .left) in (
-            (omega (arith, l .0, as-heads), omega (arith, l .1, as-bodies), long .all, long .any, long .model),
-            ap₂ (λ (i j : ℕ). formedTables heads₁ bodies₁ i j) (book .names-are) (book .rules-are)
-                ∙ ap (λ (o : Areas). formedTables (o .heads) (o .bodies) (length (namesOf (book .cs))) (length (book .cs))) (book .left)
-                ∙ tables-formed _ _ _ _ (book-formed (book .cs) tables fits),
-          )
+      pub standard-ready : StandardLong rules₁ rows × (formedTables rules₁ counts ≡ true)
+      standard-ready = (
+        (subst TablesLong (sym rules-left) (book-long (book .cs) tables fits (long-tables old long)), (long .all, long .any, long .model)),
+        ap₂ formedTables rules-left counts-are ∙ tables-formed _ _ (book-formed (book .cs) tables fits),
+      )
 
       -- the tables are standardised, which answers q₂, a, c and h
       module _ (q₂ a c h : ℕ) (all₁ any₁ model₁ : List ℕ)
           (g₂ : record { number = q₂; atoms = a; c = c; h = h; areas = record { all = all₁; any = any₁; model = model₁ } }
-          ≡ standardCall heads₁ bodies₁ n m rows) where
+          ≡ standardCall rules₁ counts rows) where
         -- the rows after it, and what it gives
         abbrev rows₁ : RowAreas
         rows₁ = record { all = all₁; any = any₁; model = model₁ }
@@ -253,8 +261,7 @@ module _ (t : Bytes) (k : ℕ) (spellings : Bytes) (heads bodies all any spare m
         -- what standardising gives, by the program
         standardised-is : standardised ≡ standardOf p rows
         standardised-is =
-            g₂ ∙ ap₂ (λ (i j : ℕ). standardCall heads₁ bodies₁ i j rows) (book .names-are) (book .rules-are)
-            ∙ ap (λ (o : Areas). standardCall (o .heads) (o .bodies) (length (namesOf (book .cs))) (length (book .cs)) rows) (book .left)
+            g₂ ∙ ap₂ (λ (x : RuleTables) (y : Counts). standardCall x y rows) rules-left counts-are
             ∙ read-standard (book .cs) tables rows fits (long-tables old long) (long .all) (long .any) (long .model)
 
         -- over 256 atoms, or not
@@ -325,20 +332,24 @@ module _ (t : Bytes) (k : ℕ) (spellings : Bytes) (heads bodies all any spare m
                 ∙ sym (fold-good all₁ spare a k (not-true (shortRows all₁ spare) (λ e. rows-short all₁ spare e (l .0))) (l .1) (formed-all all₁ a (l .2)))
                 ∙ fold-call
 
+            abbrev rows₂ : RowAreas
+            rows₂ = record { all = all₂; any = any₁; model = model₁ }
+
             -- the rounds over them are not refused
-            run-call : roundsCall all₂ any₁ model₁ a
+            run-call : roundsCall rows₂ a
                 ≡ record { number = 0; rounds = roundsOf made; model = withModel (below (standard p .atoms) (heldBy made)) model }
             run-call =
-                ap₂ (λ (f : FoldOutcome) (o : StandardOutcome). roundsCall (f .all) (o .areas .any) (o .areas .model) (o .atoms)) fold-is rows-are
+                ap₂ (λ (f : FoldOutcome) (o : StandardOutcome).
+                roundsCall (record { all = f .all; any = o .areas .any; model = o .areas .model }) (o .atoms)) fold-is rows-are
                 ∙ folded-run p well few rows k (long .all) (long .any) (long .model)
 
             -- so the folded rows and the start set are long enough and in order
-            pub run-ready : RoundsLong all₂ any₁ model₁ × (formedSystem all₂ any₁ model₁ a ≡ true)
-            run-ready = accepted all₂ any₁ model₁ a (ap (λ (o : RoundsOutcome). o .number) run-call)
+            pub run-ready : RoundsLong rows₂ × (formedSystem rows₂ a ≡ true)
+            run-ready = accepted rows₂ a (ap (λ (o : RoundsOutcome). o .number) run-call)
 
             -- the rounds are made: s rounds
             module _ (q₄ s : ℕ) (model₂ : List ℕ)
-                (g₄ : record { number = q₄; rounds = s; model = model₂ } ≡ roundsCall all₂ any₁ model₁ a) where
+                (g₄ : record { number = q₄; rounds = s; model = model₂ } ≡ roundsCall rows₂ a) where
               -- what they give, by the system
               abbrev rounds-made : RoundsOutcome
               rounds-made = record { number = q₄; rounds = s; model = model₂ }
@@ -358,9 +369,9 @@ module _ (t : Bytes) (k : ℕ) (spellings : Bytes) (heads bodies all any spare m
                   ap (λ (o : Areas). length (o .spellings)) (book .left) in
                   let used : length (nameRows ns) ≡ length ns * nameBytes =
                   length-nameRows ns (λ a l. read-fine folded folding t (book .cs) (book .reads) a l .0) in
-                  let zero : roundsCall all₂ any₁ model₁ a .number ≡ 0 = ap (λ (o : RoundsOutcome). o .number) run-call in
+                  let zero : roundsCall rows₂ a .number ≡ 0 = ap (λ (o : RoundsOutcome). o .number) run-call in
                   let bound : s ≤ a + 1 =
-                  subst (λ (i : ℕ). i ≤ a + 1) (sym (ap (λ (o : RoundsOutcome). o .rounds) g₄)) (runs all₂ any₁ model₁ a .bound zero) in
+                  subst (λ (i : ℕ). i ≤ a + 1) (sym (ap (λ (o : RoundsOutcome). o .rounds) g₄)) (runs rows₂ a .bound zero) in
                   let same-atoms : a ≡ standard p .atoms = ap (λ (o : StandardOutcome). o .atoms) rows-are in (
                     omega (arith, few-names, book .names-are),
                     omega (arith, area, length-filled nameArea (nameRows ns) spellings (omega (arith, used, few-names)) (long .spellings), long .spellings),

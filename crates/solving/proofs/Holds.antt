@@ -20,7 +20,7 @@ use Rattle.grammar.specs.Bytes.{Bytes, Folding}
 use Rattle.grammar.specs.Grammar.{Clause}
 use Rattle.tables.specs.Numbering.{place, namesOf, programOf}
 use Rattle.tables.specs.Reading.{Book}
-use Rattle.tables.specs.Areas.{Areas, short, tablesOf, readCall, lookUp}
+use Rattle.tables.specs.Areas.{Areas, Counts, countsOf, rulesOf, short, tablesOf, readCall, lookUp}
 use Rattle.tables.specs.Claims.{accepted}
 use Rattle.tables.proofs.Encoding.{long-enough}
 use Rattle.tables.proofs.Numbering.{place-at}
@@ -163,19 +163,18 @@ module _
     count = length (namesOf cs)
 
     abbrev outcome : PlainOutcome
-    outcome = plainCall (tables .heads) (tables .bodies) count (length cs) model
+    outcome = plainCall (rulesOf tables) (countsOf cs) model
 
     -- they give the book's program, so what is claimed of the call speaks of it
-    book-calls : PlainCalls (tables .heads) (tables .bodies) count (length cs) model (programOf cs) outcome
+    book-calls : PlainCalls (rulesOf tables) (countsOf cs) model (programOf cs) outcome
     book-calls =
-        subst (λ (p : Program). PlainCalls (tables .heads) (tables .bodies) count (length cs) model p outcome)
-        (tables-program cs old (book .fits)) (plain-calls (tables .heads) (tables .bodies) count (length cs) model)
+        subst (λ (p : Program). PlainCalls (rulesOf tables) (countsOf cs) model p outcome)
+        (tables-program cs old (book .fits)) (plain-calls (rulesOf tables) (countsOf cs) model)
 
     -- and they are in order
     book-accepted : outcome .number ≡ 0
     book-accepted =
-        let l = book-long cs old (book .fits) long in
-        book-calls .accepts .1 ((l .0, l .1, model-long), book-formed cs old (book .fits))
+        book-calls .accepts .1 ((book-long cs old (book .fits) long, model-long), book-formed cs old (book .fits))
 
     -- all together
     book-holds : PlainHolds fold t (tables .spellings) count outcome
@@ -185,21 +184,22 @@ module _
           held-exactly fold folding t cs book (tables .spellings)
           (look-up-read fold folding t cs (judged fold folding .accepted t cs .1 book) old (long-enough old long .0))
           (outcome .model) (book-calls .holds book-accepted);
-      counts = book-calls .counts book-accepted;
+      counts = book-calls .count-held book-accepted;
       bound = book-calls .bound book-accepted;
     }
 
     -- by the counts and the areas that the reader hands back
     counted-holds : (n m : ℕ) (o : Areas) → n ≡ length (namesOf cs) → m ≡ length cs → o ≡ tablesOf cs old
-        → PlainHolds fold t (o .spellings) n (plainCall (o .heads) (o .bodies) n m model)
+        → PlainHolds fold t (o .spellings) n (plainCall (rulesOf o) (record { names = n; rules = m }) model)
     counted-holds n m o is-n is-m is-o = rw (is-n, is-m, is-o) book-holds
 
 -- given the tables read from a book, it accepts them and holds exactly the names in every model
-pub plain-holds : (fold : ℕ → ℕ) → Folding fold → (t : Bytes) (old o : Areas) (n m : ℕ) → readCall fold t old ≡ accepted n m o
-    → (model : List ℕ) → rowWords ≤ length model → PlainHolds fold t (o .spellings) n (plainCall (o .heads) (o .bodies) n m model)
-plain-holds fold folding t old o n m e model l =
-    let (cs, long, fits, book, is-n, is-m, is-o) = read-calls fold folding .accepts t old o n m .0 e in
-    counted-holds fold folding t cs book old long model l n m o is-n is-m is-o
+pub plain-holds : (fold : ℕ → ℕ) → Folding fold → (t : Bytes) (old o : Areas) (counts : Counts)
+    → readCall fold t old ≡ accepted (counts .names) (counts .rules) o → (model : List ℕ) → rowWords ≤ length model
+    → PlainHolds fold t (o .spellings) (counts .names) (plainCall (rulesOf o) counts model)
+plain-holds fold folding t old o counts e model l =
+    let (cs, long, fits, book, is-n, is-m, is-o) = read-calls fold folding .accepts t old o (counts .names) (counts .rules) .0 e in
+    counted-holds fold folding t cs book old long model l (counts .names) (counts .rules) o is-n is-m is-o
 
 -- So the held names are alike.
 
@@ -214,9 +214,10 @@ alike fold folding t k k′ old old′ z z′ x =
 
 -- and by the plain route
 pub alike-plain : (fold : ℕ → ℕ) → Folding fold → (t : Bytes) (k : ℕ) (old : SolveAreas) → solveCall fold t k old .answer .number ≡ 0
-    → (tables o : Areas) (n m : ℕ) → readCall fold t tables ≡ accepted n m o → (model : List ℕ) → rowWords ≤ length model
-    → (x : Bytes) → Held (solveCall fold t k old) x ↔ HeldIn (o .spellings) n (plainCall (o .heads) (o .bodies) n m model .model) x
-alike-plain fold folding t k old z tables o n m e model l x =
+    → (tables o : Areas) (counts : Counts) → readCall fold t tables ≡ accepted (counts .names) (counts .rules) o
+    → (model : List ℕ) → rowWords ≤ length model
+    → (x : Bytes) → Held (solveCall fold t k old) x ↔ HeldIn (o .spellings) (counts .names) (plainCall (rulesOf o) counts model .model) x
+alike-plain fold folding t k old z tables o counts e model l x =
     let h = solve-holds fold folding t k old z .holds x in
-    let h′ = plain-holds fold folding t tables o n m e model l .holds x in
+    let h′ = plain-holds fold folding t tables o counts e model l .holds x in
     (λ q. h′ .1 (h .0 q), λ q. h .1 (h′ .0 q))

@@ -22,15 +22,15 @@ use Rattle.program.proofs.Theorems.{least-model}
 use Rattle.grammar.specs.Grammar.{Clause}
 use Rattle.tables.specs.Numbering.{namesOf, numbered, programOf}
 use Rattle.tables.specs.Reading.{Fits}
-use Rattle.tables.specs.Areas.{Areas, short, filled, headRows, bodyRows, filledWith, tablesOf, rulesIn, rulesOnly, programIn}
+use Rattle.tables.specs.Areas.{Areas, RuleTables, Counts, countsOf, rulesOf, short, filled, headRows, bodyRows, filledWith, tablesOf, rulesIn, rulesOnly, programIn}
 use Rattle.tables.specs.Begun.{begun}
 use Rattle.tables.proofs.Encoding.{rules-in, length-filled, filled-is, long-enough}
 use Rattle.tables.proofs.Numbering.{numbers, heads-length, bodies-length, book-low}
-use Rattle.systems.specs.Rows.{rowIn, packed, below}
+use Rattle.systems.specs.Rows.{RowAreas, rowIn, packed, below}
 use Rattle.systems.specs.Fold.{shortRows, foldedArea, foldCall}
 use Rattle.systems.specs.Rounds.{modelIn, withModel, systemIn, startKept, runOf, roundsCall}
-use Rattle.systems.specs.Standardise.{RowAreas, standardCall, standardOf, standardRows}
-use Rattle.systems.specs.Claims.{InCount, StandardLong, StandardFormed}
+use Rattle.systems.specs.Standardise.{standardCall, standardOf, standardRows}
+use Rattle.systems.specs.Claims.{InCount, TablesLong, StandardLong, StandardFormed}
 use Rattle.systems.proofs.Packed.{length-packed, packed-same, zero-word, row-unused, row-filled-past}
 use Rattle.systems.proofs.Formed.{unfolded-in, unfolded-same, round-same}
 use Rattle.systems.proofs.Folds.{rows-short, formed-all, fold-good}
@@ -48,21 +48,21 @@ module _ (cs : List Clause) (old : Areas) (fits : Fits cs) where
   abbrev rs : List (Rule ℕ)
   rs = map (numbered (namesOf cs)) cs
 
-  abbrev heads : List ℕ
-  heads = tablesOf cs old .heads
+  abbrev tables : RuleTables
+  tables = rulesOf (tablesOf cs old)
 
-  abbrev bodies : List ℕ
-  bodies = tablesOf cs old .bodies
+  abbrev counts : Counts
+  counts = countsOf cs
 
   -- as many rules as clauses
   size : length rs ≡ length cs
   size = length-map cs (numbered (namesOf cs))
 
   -- the tables give the book's program
-  pub tables-program : programIn heads bodies n (length cs) ≡ programOf cs
+  pub tables-program : programIn tables counts ≡ programOf cs
   unfolding tablesOf filledWith programOf
   tables-program =
-      let given : Areas = rulesOnly heads bodies in
+      let given : Areas = rulesOnly (tables .heads) (tables .bodies) in
       ap (λ (x : List (Rule ℕ)). record { names = n; rules = x })
       (ap (rulesIn given) (sym size)
       ∙ rules-in rs (replicate (rules - length (headRows rs)) 0 ++ drop rules (old .heads))
@@ -70,36 +70,36 @@ module _ (cs : List Clause) (old : Areas) (fits : Fits cs) where
       (filled-is rules (headRows rs) (old .heads)) (filled-is bodyArea (bodyRows rs) (old .bodies)) (book-low cs (fits .names-fit)))
 
   -- which is well formed
-  tables-well : WellFormed (programIn heads bodies n (length cs))
+  tables-well : WellFormed (programIn tables counts)
   tables-well = subst WellFormed (sym tables-program) (numbers cs .formed)
 
   -- past the rules there are zeros
-  unused-head : (j : ℕ) → length cs ≤ j → j < rules → getD heads j 0 ≡ 0
+  unused-head : (j : ℕ) → length cs ≤ j → j < rules → getD (tables .heads) j 0 ≡ 0
   unfolding tablesOf filledWith
   unused-head j l b = zero-word rules (headRows rs) (old .heads) j (omega (arith, heads-length rs, size)) b
 
-  unused-body : (j a : ℕ) → length cs ≤ j → j < rules → rowIn bodyWords bodies j a ≡ false
+  unused-body : (j a : ℕ) → length cs ≤ j → j < rules → rowIn bodyWords (tables .bodies) j a ≡ false
   unfolding tablesOf filledWith
   unused-body j a l b =
       row-unused bodyWords bodyArea (bodyRows rs) (old .bodies) j a (omega (arith, bodies-length rs, size)) (omega arith)
 
   -- so the tables are in order
-  pub book-formed : StandardFormed heads bodies n (length cs)
+  pub book-formed : StandardFormed tables counts
   book-formed =
       let m : ℕ = length cs in
-      let is-rule : (j : ℕ) → j < m → j < length (programIn heads bodies n m .rules) =
-      λ j l. subst (λ (k : ℕ). j < k) (sym (size-in heads bodies n m)) l in
+      let is-rule : (j : ℕ) → j < m → j < length (programIn tables counts .rules) =
+      λ j l. subst (λ (k : ℕ). j < k) (sym (size-in tables counts)) l in
       record {
         names-limit = fits .names-fit;
         rules-limit = fits .rules-fit;
-        head = λ j l. subst (λ (x : ℕ). x < n) (head-in heads bodies n m j l) (tables-well .heads j (is-rule j l));
-        body = λ j a l e. tables-well .bodies j a (is-rule j l) (ap (λ (f : Set). f a) (body-in heads bodies n m j l) ∙ e);
+        head = λ j l. subst (λ (x : ℕ). x < n) (head-in tables counts j l) (tables-well .heads j (is-rule j l));
+        body = λ j a l e. tables-well .bodies j a (is-rule j l) (ap (λ (f : Set). f a) (body-in tables counts j l) ∙ e);
         head-unused = unused-head;
         body-unused = unused-body;
       }
 
   -- and as long as they were
-  pub book-long : short old ≡ false → (rules ≤ length heads) × (bodyArea ≤ length bodies)
+  pub book-long : short old ≡ false → TablesLong tables
   unfolding tablesOf filledWith
   book-long e =
       let l = long-enough old e in (
@@ -110,14 +110,12 @@ module _ (cs : List Clause) (old : Areas) (fits : Fits cs) where
 -- the tables of a book are taken, and standardised as its program
 pub read-standard : (cs : List Clause) (old : Areas) (rows : RowAreas) → Fits cs → short old ≡ false
     → rowArea ≤ length (rows .all) → rowArea ≤ length (rows .any) → rowWords ≤ length (rows .model)
-    → standardCall (tablesOf cs old .heads) (tablesOf cs old .bodies) (length (namesOf cs)) (length cs) rows ≡ standardOf (programOf cs) rows
+    → standardCall (rulesOf (tablesOf cs old)) (countsOf cs) rows ≡ standardOf (programOf cs) rows
 read-standard cs old rows fits e all any model =
-    let heads : List ℕ = tablesOf cs old .heads in
-    let bodies : List ℕ = tablesOf cs old .bodies in
-    let l = book-long cs old fits e in
-    let long : StandardLong heads bodies rows = (l .0, l .1, all, any, model) in
-    standard-formed heads bodies (length (namesOf cs)) (length cs) rows (long-tables heads bodies rows long)
-    (tables-formed heads bodies (length (namesOf cs)) (length cs) (book-formed cs old fits))
+    let tables : RuleTables = rulesOf (tablesOf cs old) in
+    let long : StandardLong tables rows = (book-long cs old fits e, (all, any, model)) in
+    standard-formed tables (countsOf cs) rows (long-tables tables rows long)
+    (tables-formed tables (countsOf cs) (book-formed cs old fits))
     ∙ ap (λ (p : Program). standardOf p rows) (tables-program cs old fits)
 
 -- Standardising, then folding, then the rounds.
@@ -130,6 +128,15 @@ begun-over size xs ys old e =
     ∙ ap (λ (t : List ℕ). xs ++ t) (drop-at ys (replicate (size - length ys) 0 ++ drop size old) (length xs) (sym e))
     ∙ ap (λ (j : ℕ). xs ++ (replicate (size - j) 0 ++ drop size old)) (sym e)
     ∙ sym (filled-is size xs old)
+
+-- the areas of rows of a program after k folds
+abbrev pub foldedRows : Program → RowAreas → ℕ → RowAreas
+foldedRows p o k =
+    record {
+      all = filled rowArea (packed rowWords (standard p .atoms) (folded k (standard p) .all)) (o .all);
+      any = standardRows p o .any;
+      model = standardRows p o .model;
+    }
 
 module _ (p : Program) (well : WellFormed p) (few : standard p .atoms ≤ atoms) where
   -- the atom count, and the "all" rows after k folds
@@ -191,19 +198,16 @@ module _ (p : Program) (well : WellFormed p) (few : standard p .atoms ≤ atoms)
     -- The rounds over the folded rows.
 
     module _ (any-long : rowArea ≤ length (o .any)) (model-long : rowWords ≤ length (o .model)) where
-      -- the three areas
-      abbrev after : List ℕ
-      after = filled rowArea (packed rowWords m (rows k)) (o .all)
-
-      abbrev any : List ℕ
-      any = standardRows p o .any
+      -- the areas, and the model area
+      abbrev after : RowAreas
+      after = foldedRows p o k
 
       abbrev model : List ℕ
       model = standardRows p o .model
 
       -- the system in the areas, and the definition's after k folds
       abbrev here : System
-      here = systemIn after any model m
+      here = systemIn after m
 
       abbrev defined : System
       defined = folded k (standard p)
@@ -225,10 +229,10 @@ module _ (p : Program) (well : WellFormed p) (few : standard p .atoms ≤ atoms)
           (λ i l t. agree (modelIn model) (startSet p) starts i l ∙ least-model p well k .rounds .start i l (sym (starts i l) ∙ t))
 
       -- so they are not refused
-      runs : roundsCall after any model m ≡ runOf here model
+      runs : roundsCall after m ≡ runOf here model
       unfolding standardRows
       runs =
-          call-runs after any model m (
+          call-runs after m (
             area-long (rows k) (o .all) all-long,
             area-long (anyRow p) (o .any) any-long,
             omega (arith, length-model (startSet p) (o .model) model-long),
@@ -279,8 +283,7 @@ standard-fold p well few o spare k all-long spare-long l =
 -- the folded rows of a program are taken, and run as the definition runs them
 pub folded-run : (p : Program) → WellFormed p → standard p .atoms ≤ atoms → (o : RowAreas) (k : ℕ)
     → rowArea ≤ length (o .all) → rowArea ≤ length (o .any) → rowWords ≤ length (o .model)
-    → roundsCall (filled rowArea (packed rowWords (standard p .atoms) (folded k (standard p) .all)) (o .all)) (standardRows p o .any)
-    (standardRows p o .model) (standard p .atoms)
+    → roundsCall (foldedRows p o k) (standard p .atoms)
     ≡ record {
       number = 0;
       rounds = roundsOf (folded k (standard p));

@@ -10,7 +10,7 @@ use Rattle.limits.specs.Book.{rowWords}
 use Rattle.grammar.specs.Bytes.{Bytes}
 use Rattle.grammar.specs.Grammar.{Clause}
 use Rattle.tables.specs.Reading.{Book}
-use Rattle.tables.specs.Areas.{Areas, readCall, programIn}
+use Rattle.tables.specs.Areas.{Areas, RuleTables, Counts, rulesOf, readCall, programIn}
 use Rattle.tables.specs.Claims.{accepted}
 use Rattle.solving.specs.Plain.{plainCall}
 use Rattle.solving.specs.Listing.{decimal}
@@ -31,14 +31,15 @@ pub record Demands (fold : ℕ → ℕ) : Type 0 where
       → Lists (solveCall fold t k old) k (old .listing)
   pub rounds : (t : Bytes) (k : ℕ) (old : SolveAreas) (cs : List Clause) → Book fold t cs
       → solveCall fold t k old .answer .number ≡ 0 → SolveRounds cs k (solveCall fold t k old)
-  pub plain-calls : (heads bodies : List ℕ) (n m : ℕ) (model : List ℕ)
-      → PlainCalls heads bodies n m model (programIn heads bodies n m) (plainCall heads bodies n m model)
-  pub plain-holds : (t : Bytes) (old o : Areas) (n m : ℕ) → readCall fold t old ≡ accepted n m o
-      → (model : List ℕ) → rowWords ≤ length model → PlainHolds fold t (o .spellings) n (plainCall (o .heads) (o .bodies) n m model)
+  pub plain-calls : (tables : RuleTables) (counts : Counts) (model : List ℕ)
+      → PlainCalls tables counts model (programIn tables counts) (plainCall tables counts model)
+  pub plain-holds : (t : Bytes) (old o : Areas) (counts : Counts) → readCall fold t old ≡ accepted (counts .names) (counts .rules) o
+      → (model : List ℕ) → rowWords ≤ length model → PlainHolds fold t (o .spellings) (counts .names) (plainCall (rulesOf o) counts model)
   -- so the held names are alike under every two fold numbers, and by the plain route
   pub alike : (t : Bytes) (k k′ : ℕ) (old old′ : SolveAreas)
       → solveCall fold t k old .answer .number ≡ 0 → solveCall fold t k′ old′ .answer .number ≡ 0
       → (x : Bytes) → Held (solveCall fold t k old) x ↔ Held (solveCall fold t k′ old′) x
   pub alike-plain : (t : Bytes) (k : ℕ) (old : SolveAreas) → solveCall fold t k old .answer .number ≡ 0
-      → (tables o : Areas) (n m : ℕ) → readCall fold t tables ≡ accepted n m o → (model : List ℕ) → rowWords ≤ length model
-      → (x : Bytes) → Held (solveCall fold t k old) x ↔ HeldIn (o .spellings) n (plainCall (o .heads) (o .bodies) n m model .model) x
+      → (tables o : Areas) (counts : Counts) → readCall fold t tables ≡ accepted (counts .names) (counts .rules) o
+      → (model : List ℕ) → rowWords ≤ length model
+      → (x : Bytes) → Held (solveCall fold t k old) x ↔ HeldIn (o .spellings) (counts .names) (plainCall (rulesOf o) counts model .model) x

@@ -6,13 +6,13 @@ use mathlib.Core.List.{List}
 use Prim.Native.Nat.{ℕ}
 use lib.Dec.{ltb}
 use lib.ListN.{length}
-use Rattle.limits.specs.Book.{rules, rowWords, bodyArea}
+use Rattle.limits.specs.Book.{rowWords}
 use Rattle.sets.specs.Set.{pick, count}
 use Rattle.program.specs.Program.{Program, plainHeld, plainRounds}
-use Rattle.tables.specs.Areas.{programIn}
+use Rattle.tables.specs.Areas.{RuleTables, Counts, programIn}
 use Rattle.systems.specs.Rows.{below}
 use Rattle.systems.specs.Rounds.{withModel}
-use Rattle.systems.specs.Standardise.{formedTables}
+use Rattle.systems.specs.Standardise.{shortRules, formedTables}
 
 -- what the call returns and leaves
 pub record PlainOutcome : Type 0 where
@@ -22,8 +22,8 @@ pub record PlainOutcome : Type 0 where
   pub model : List ℕ
 
 -- an area shorter than its stated size
-unfoldable pub shortPlain : List ℕ → List ℕ → List ℕ → Bool
-shortPlain heads bodies model = ltb (length heads) rules || (ltb (length bodies) bodyArea || ltb (length model) rowWords)
+unfoldable pub shortPlain : RuleTables → List ℕ → Bool
+shortPlain tables model = shortRules tables || ltb (length model) rowWords
 
 -- a refusal leaves all as it was
 abbrev pub plainRefusal : ℕ → List ℕ → PlainOutcome
@@ -40,7 +40,7 @@ plainOf p model =
     }
 
 -- areas too short, tables ill formed; else the rounds over the rules
-unfoldable pub plainCall : List ℕ → List ℕ → ℕ → ℕ → List ℕ → PlainOutcome
-plainCall heads bodies n m model =
-    pick (shortPlain heads bodies model) (plainRefusal 1 model)
-    (pick (formedTables heads bodies n m) (plainOf (programIn heads bodies n m) model) (plainRefusal 10 model))
+unfoldable pub plainCall : RuleTables → Counts → List ℕ → PlainOutcome
+plainCall tables counts model =
+    pick (shortPlain tables model) (plainRefusal 1 model)
+    (pick (formedTables tables counts) (plainOf (programIn tables counts) model) (plainRefusal 10 model))

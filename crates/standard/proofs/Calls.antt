@@ -16,68 +16,69 @@ use Rattle.sets.proofs.Counting.{count-le}
 use Rattle.words.specs.Row.{row, part, pack}
 use Rattle.program.specs.Program.{Program}
 use Rattle.program.specs.System as System
-use Rattle.program.specs.Standard.{hasBody, allRow, anyRow, startSet, standard}
+use Rattle.program.specs.Standard.{allRow, anyRow, startSet, standard}
 use Rattle.program.proofs.Theorems.{kinds}
-use Rattle.tables.specs.Areas.{filled, programIn}
+use Rattle.tables.specs.Areas.{RuleTables, Counts, filled, programIn}
 use Rattle.tables.specs.Begun.{begun}
 use Rattle.tables.proofs.Encoding.{length-filled, filled-is}
-use Rattle.systems.specs.Rows.{packed}
-use Rattle.systems.specs.Rounds.{withModel}
-use Rattle.systems.specs.Standardise.{RowAreas, StandardOutcome, shortTables, formedTables, standardRefusal, standardRows, standardCall}
+use Rattle.systems.specs.Rows.{RowAreas, packed}
+use Rattle.systems.specs.Rounds.{withModel, shortSystem}
+use Rattle.systems.specs.Standardise.{StandardOutcome, shortRules, shortTables, formedTables, standardRefusal, standardRows, standardCall}
 use Rattle.systems.specs.Claims.{StandardLong}
 use Rattle.systems.proofs.Packed.{length-packed}
-use Rattle.systems.proofs.Bridge.{size-in, formed-limits, formed-program}
+use Rattle.systems.proofs.Bridge.{formed-limits, formed-program}
 use Rattle.systems.proofs.Running.{length-model, model-again}
 use Rattle.systems.proofs.Standard.{standardWell, long-tables, standard-short, standard-ill, standard-over, standard-good}
 use Rattle.ways.specs.Ways.{severalNames}
 use Rattle.ways.proofs.Counts.{heads-below, row-atoms, row-h}
-use Rattle.placing.specs.Partial.{withRows, Ready}
+use Rattle.placing.specs.Partial.{Ready, Filled}
 use Rattle.standard.specs.Short.{tooShort}
 
 -- areas of h, b, a, y and m entries: each that is too short settles it
 module _ (h b a y m : ℕ) where
+  abbrev lackRules : Bool
+  lackRules = ltb h rules || ltb b bodyArea
+
+  abbrev lackRows : Bool
+  lackRows = ltb a rowArea || (ltb y rowArea || ltb m rowWords)
+
   -- the heads
   pub lack-heads : h < rules → true ≡ tooShort h b a y m
   unfolding tooShort
-  lack-heads l = sym (or-left (ltb b bodyArea || (ltb a rowArea || (ltb y rowArea || ltb m rowWords))) (lt-ltb h rules l))
+  lack-heads l = sym (or-left lackRows (or-left (ltb b bodyArea) (lt-ltb h rules l)))
 
   -- the bodies
   pub lack-bodies : b < bodyArea → true ≡ tooShort h b a y m
   unfolding tooShort
-  lack-bodies l = sym (or-right (ltb h rules) (or-left (ltb a rowArea || (ltb y rowArea || ltb m rowWords)) (lt-ltb b bodyArea l)))
+  lack-bodies l = sym (or-left lackRows (or-right (ltb h rules) (lt-ltb b bodyArea l)))
 
   -- the "all" area
   pub lack-all : a < rowArea → true ≡ tooShort h b a y m
   unfolding tooShort
-  lack-all l =
-      sym (or-right (ltb h rules) (or-right (ltb b bodyArea) (or-left (ltb y rowArea || ltb m rowWords) (lt-ltb a rowArea l))))
+  lack-all l = sym (or-right lackRules (or-left (ltb y rowArea || ltb m rowWords) (lt-ltb a rowArea l)))
 
   -- the "any" area
   pub lack-any : y < rowArea → true ≡ tooShort h b a y m
   unfolding tooShort
-  lack-any l =
-      sym (or-right (ltb h rules) (or-right (ltb b bodyArea) (or-right (ltb a rowArea) (or-left (ltb m rowWords) (lt-ltb y rowArea l)))))
+  lack-any l = sym (or-right lackRules (or-right (ltb a rowArea) (or-left (ltb m rowWords) (lt-ltb y rowArea l))))
 
   -- else the model area decides
   pub lack-model : rules ≤ h → bodyArea ≤ b → rowArea ≤ a → rowArea ≤ y → ltb m rowWords ≡ tooShort h b a y m
   unfolding tooShort
   lack-model p q r s = sym (rw (le-ltb h rules p, le-ltb b bodyArea q, le-ltb a rowArea r, le-ltb y rowArea s))
 
--- areas that are not too short: each is long enough, r being the test of them all
-pub long-enough : (h b a y m : ℕ) (r : Bool) → r ≡ tooShort h b a y m → r ≡ false
-    → (rules ≤ h) × (bodyArea ≤ b) × (rowArea ≤ a) × (rowArea ≤ y) × (rowWords ≤ m)
-unfolding tooShort
-long-enough h b a y m r e f =
-    let p = or-none (ltb h rules) (ltb b bodyArea || (ltb a rowArea || (ltb y rowArea || ltb m rowWords))) (sym e ∙ f) in
-    let q = or-none (ltb b bodyArea) (ltb a rowArea || (ltb y rowArea || ltb m rowWords)) (p .1) in
-    let s = or-none (ltb a rowArea) (ltb y rowArea || ltb m rowWords) (q .1) in
-    let t = or-none (ltb y rowArea) (ltb m rowWords) (s .1) in (
-      ltb-false h rules (p .0),
-      ltb-false b bodyArea (q .0),
-      ltb-false a rowArea (s .0),
-      ltb-false y rowArea (t .0),
-      ltb-false m rowWords (t .1),
-    )
+  -- where none is, each is long enough, r being the test of them all
+  pub long-enough : (r : Bool) → r ≡ tooShort h b a y m → r ≡ false
+      → ((rules ≤ h) × (bodyArea ≤ b)) × ((rowArea ≤ a) × (rowArea ≤ y) × (rowWords ≤ m))
+  unfolding tooShort
+  long-enough r e f =
+      let p = or-none lackRules lackRows (sym e ∙ f) in
+      let q = or-none (ltb h rules) (ltb b bodyArea) (p .0) in
+      let s = or-none (ltb a rowArea) (ltb y rowArea || ltb m rowWords) (p .1) in
+      let t = or-none (ltb y rowArea) (ltb m rowWords) (s .1) in (
+        (ltb-false h rules (q .0), ltb-false b bodyArea (q .1)),
+        (ltb-false a rowArea (s .0), ltb-false y rowArea (t .0), ltb-false m rowWords (t .1)),
+      )
 
 -- Areas filled and then begun again.
 
@@ -105,17 +106,26 @@ same-outcome : {k k′ c c′ h h′ : ℕ} {x x′ y y′ z z′ : List ℕ} �
 same-outcome p q r s t u = cc
 
 -- the tables are in order
-module _ (heads bodies : List ℕ) (n m : ℕ) (formed : formedTables heads bodies n m ≡ true) where
+module _ (tables : RuleTables) (counts : Counts) (formed : formedTables tables counts ≡ true) where
+  abbrev heads : List ℕ
+  heads = tables .heads
+
+  abbrev n : ℕ
+  n = counts .names
+
+  abbrev m : ℕ
+  m = counts .rules
+
   abbrev p : Program
-  p = programIn heads bodies n m
+  p = programIn tables counts
 
   -- tables in order are within the limits
   pub in-limits : (n ≤ names) × (m ≤ rules)
-  in-limits = formed-limits heads bodies n m formed
+  in-limits = formed-limits tables counts formed
 
   -- and their heads are names
   pub head-names : (j : ℕ) → j < m → getD heads j 0 < names
-  head-names = heads-below heads bodies n m formed
+  head-names = heads-below tables counts formed
 
   -- the names with several rules are marked, and `helpers` rules are theirs
   module _ (marked : List ℕ) (s : marked ≡ pack bodyWords (severalNames heads m)) (helpers : ℕ)
@@ -129,7 +139,7 @@ module _ (heads bodies : List ℕ) (n m : ℕ) (formed : formedTables heads bodi
 
     -- that many atoms
     atoms-are : n + helpers ≡ standard p .atoms
-    atoms-are = ap (λ (k : ℕ). n + k) q ∙ row-atoms heads bodies n m formed marked s
+    atoms-are = ap (λ (k : ℕ). n + k) q ∙ row-atoms tables counts formed marked s
 
     -- not over 256: the rows before any rule
     module _ (l : n + helpers ≤ atoms) where
@@ -148,99 +158,86 @@ module _ (heads bodies : List ℕ) (n m : ℕ) (formed : formedTables heads bodi
           in
           omega (arith, ap length u, length-filled rowArea (packed rowWords (standard p .atoms) rows) old (omega (arith, few)) b)
 
-      module _ (all any model all₁ any₁ model₁ : List ℕ)
-          (x : all₁ ≡ filled rowArea (packed rowWords (n + helpers) only) all)
-          (y : any₁ ≡ filled rowArea (packed rowWords (n + helpers) (λ i. emptySet)) any)
-          (z : model₁ ≡ withModel emptySet model) where
-        abbrev o : RowAreas
-        o = record { all = all; any = any; model = model }
-
+      -- the areas o before, and o₁ with those rows
+      module _ (o o₁ : RowAreas) (x : o₁ .all ≡ filled rowArea (packed rowWords (n + helpers) only) (o .all))
+          (y : o₁ .any ≡ filled rowArea (packed rowWords (n + helpers) (λ i. emptySet)) (o .any))
+          (z : o₁ .model ≡ withModel emptySet (o .model)) where
         -- the rules can be placed
-        pub rows-ready : StandardLong heads bodies o → Ready heads bodies marked n m all₁ any₁ model₁
+        pub rows-ready : StandardLong tables o → Ready tables counts marked o₁
         rows-ready long =
-            let u : all₁ ≡ filled rowArea (packed rowWords (standard p .atoms) only) all = by-atoms only all all₁ x in
-            let v : any₁ ≡ filled rowArea (packed rowWords (standard p .atoms) (λ i. emptySet)) any = by-atoms (λ i. emptySet) any any₁ y in
+            let u : o₁ .all ≡ filled rowArea (packed rowWords (standard p .atoms) only) (o .all) = by-atoms only (o .all) (o₁ .all) x in
+            let v : o₁ .any ≡ filled rowArea (packed rowWords (standard p .atoms) (λ i. emptySet)) (o .any) =
+            by-atoms (λ i. emptySet) (o .any) (o₁ .any) y
+            in
             record {
               formed = formed;
               few = few;
-              heads-long = long .0;
-              bodies-long = long .1;
-              all-long = filled-long only all all₁ (long .2) u;
-              any-long = filled-long (λ i. emptySet) any any₁ (long .3) v;
-              model-long = omega (arith, long .4, ap length z, length-model emptySet model (long .4));
+              long = (
+                long .0,
+                (
+                  filled-long only (o .all) (o₁ .all) (long .1 .0) u,
+                  filled-long (λ i. emptySet) (o .any) (o₁ .any) (long .1 .1) v,
+                  omega (arith, long .1 .2, ap length z, length-model emptySet (o .model) (long .1 .2)),
+                ),
+              );
               marks = s;
-              all-rows = filled-begun rowArea (packed rowWords (standard p .atoms) only) all all₁ u;
-              any-rows = filled-begun rowArea (packed rowWords (standard p .atoms) (λ i. emptySet)) any any₁ v;
-              start-row = z ∙ sym (model-again emptySet emptySet model) ∙ ap (withModel emptySet) (sym z);
+              all-rows = filled-begun rowArea (packed rowWords (standard p .atoms) only) (o .all) (o₁ .all) u;
+              any-rows = filled-begun rowArea (packed rowWords (standard p .atoms) (λ i. emptySet)) (o .any) (o₁ .any) v;
+              start-row = z ∙ sym (model-again emptySet emptySet (o .model)) ∙ ap (withModel emptySet) (sym z);
             }
 
         -- with them placed, the outcome is the definition's
-        rows-well : (c h : ℕ) (all₂ any₂ model₂ : List ℕ) → c ≡ count m (hasBody p) → all₂ ≡ withRows p (allRow p) all₁
-            → any₂ ≡ withRows p (anyRow p) any₁ → model₂ ≡ withModel (startSet p) model₁
-            → h ≡ count (bodyWords * wordBits) (row (part 0 bodyWords marked))
-            → record { number = 0; atoms = n + helpers; c = c; h = h; areas = record { all = all₂; any = any₂; model = model₂ } } ≡ standardWell p o
+        rows-well : (c h : ℕ) (o₂ : RowAreas) → Filled p c o₁ o₂ → h ≡ count (bodyWords * wordBits) (row (part 0 bodyWords marked))
+            → record { number = 0; atoms = n + helpers; c = c; h = h; areas = o₂ } ≡ standardWell p o
         unfolding standardRows
-        rows-well c h all₂ any₂ model₂ counted u v w many =
+        rows-well c h o₂ f many =
             let as-many : (rows next : ℕ → Set) → length (packed rowWords (standard p .atoms) next) ≡ length (packed rowWords (standard p .atoms) rows) =
             λ rows next. length-packed rowWords (standard p .atoms) next ∙ sym (length-packed rowWords (standard p .atoms) rows)
             in
             same-outcome atoms-are
-            (counted ∙ ap (λ (k : ℕ). count k (hasBody p)) (sym (size-in heads bodies n m))
-            ∙ sym (kinds p (formed-program heads bodies n m formed) .c-rules))
-            (many ∙ row-h heads bodies n m formed marked s)
-            (filled-again rowArea (packed rowWords (standard p .atoms) only) (packed rowWords (standard p .atoms) (allRow p)) all all₁ all₂
-            (as-many only (allRow p)) (by-atoms only all all₁ x) u)
-            (filled-again rowArea (packed rowWords (standard p .atoms) (λ i. emptySet)) (packed rowWords (standard p .atoms) (anyRow p)) any any₁ any₂
-            (as-many (λ i. emptySet) (anyRow p)) (by-atoms (λ i. emptySet) any any₁ y) v)
-            (w ∙ ap (withModel (startSet p)) z ∙ model-again (startSet p) emptySet model)
+            (f .counted ∙ sym (kinds p (formed-program tables counts formed) .c-rules))
+            (many ∙ row-h tables counts formed marked s)
+            (filled-again rowArea (packed rowWords (standard p .atoms) only) (packed rowWords (standard p .atoms) (allRow p))
+            (o .all) (o₁ .all) (o₂ .all) (as-many only (allRow p)) (by-atoms only (o .all) (o₁ .all) x) (f .all-rows))
+            (filled-again rowArea (packed rowWords (standard p .atoms) (λ i. emptySet)) (packed rowWords (standard p .atoms) (anyRow p))
+            (o .any) (o₁ .any) (o₂ .any) (as-many (λ i. emptySet) (anyRow p)) (by-atoms (λ i. emptySet) (o .any) (o₁ .any) y) (f .any-rows))
+            (f .start-row ∙ ap (withModel (startSet p)) z ∙ model-again (startSet p) emptySet (o .model))
 
 -- `low` is whether an area is too short, `ok` whether the tables are in order
-module _ (heads bodies : List ℕ) (n m : ℕ) (all any model : List ℕ) (low : Bool)
-    (e : low ≡ tooShort (length heads) (length bodies) (length all) (length any) (length model)) where
-  abbrev o′ : RowAreas
-  o′ = record { all = all; any = any; model = model }
-
-  short-is : low ≡ shortTables heads bodies o′
-  unfolding shortTables tooShort
+module _ (tables : RuleTables) (counts : Counts) (o : RowAreas) (low : Bool)
+    (e : low ≡ tooShort (length (tables .heads)) (length (tables .bodies)) (length (o .all)) (length (o .any)) (length (o .model))) where
+  short-is : low ≡ shortTables tables o
+  unfolding shortTables shortRules shortSystem tooShort
   short-is = e
 
   -- an area too short: 1
-  pub call-short : low ≡ true → standardRefusal 1 o′ ≡ standardCall heads bodies n m o′
-  call-short f = sym (standard-short heads bodies n m o′ (sym short-is ∙ f))
+  pub call-short : low ≡ true → standardRefusal 1 o ≡ standardCall tables counts o
+  call-short f = sym (standard-short tables counts o (sym short-is ∙ f))
 
-  module _ (f : low ≡ false) (ok : Bool) (g : ok ≡ formedTables heads bodies n m) where
-    -- ill formed tables: 10
-    pub call-ill : not ok ≡ true → standardRefusal 10 o′ ≡ standardCall heads bodies n m o′
-    call-ill t = sym (standard-ill heads bodies n m o′ (sym short-is ∙ f) (sym g ∙ not-true ok t))
+  -- ill formed tables: 10
+  pub call-ill : low ≡ false → (ok : Bool) → ok ≡ formedTables tables counts → not ok ≡ true → standardRefusal 10 o ≡ standardCall tables counts o
+  call-ill f ok g t = sym (standard-ill tables counts o (sym short-is ∙ f) (sym g ∙ not-true ok t))
 
 -- the areas are long enough and the tables in order; the names with several rules are marked, and `helpers` rules are theirs
-module _ (heads bodies : List ℕ) (n m : ℕ) (all any model : List ℕ) (long : StandardLong heads bodies (record { all = all; any = any; model = model }))
-    (formed : formedTables heads bodies n m ≡ true) (marked : List ℕ) (s : marked ≡ pack bodyWords (severalNames heads m)) (helpers : ℕ)
-    (q : helpers ≡ count m (λ j. row (part 0 bodyWords marked) (getD heads j 0))) where
-  abbrev o″ : RowAreas
-  o″ = record { all = all; any = any; model = model }
+module _ (tables : RuleTables) (counts : Counts) (o : RowAreas) (long : StandardLong tables o) (formed : formedTables tables counts ≡ true)
+    (marked : List ℕ) (s : marked ≡ pack bodyWords (severalNames (tables .heads) (counts .rules))) (helpers : ℕ)
+    (q : helpers ≡ count (counts .rules) (λ j. row (part 0 bodyWords marked) (getD (tables .heads) j 0))) where
+  abbrev k : ℕ
+  k = counts .names + helpers
 
   -- over 256 atoms: 8
-  pub call-over : atoms < n + helpers → standardRefusal 8 o″ ≡ standardCall heads bodies n m o″
+  pub call-over : atoms < k → standardRefusal 8 o ≡ standardCall tables counts o
   call-over l =
       sym
-      (standard-over heads bodies n m o″ (long-tables heads bodies o″ long) formed
-      (subst (λ (k : ℕ). atoms < k) (atoms-are heads bodies n m formed marked s helpers q) l))
+      (standard-over tables counts o (long-tables tables o long) formed
+      (subst (λ (x : ℕ). atoms < x) (atoms-are tables counts formed marked s helpers q) l))
 
   -- the rows: 0
-  pub call-done : (l : n + helpers ≤ atoms) (all₁ any₁ model₁ : List ℕ)
-      → all₁ ≡ filled rowArea (packed rowWords (n + helpers) only) all
-      → any₁ ≡ filled rowArea (packed rowWords (n + helpers) (λ i. emptySet)) any
-      → model₁ ≡ withModel emptySet model
-      → (c h : ℕ) (all₂ any₂ model₂ : List ℕ) → c ≡ count m (hasBody (programIn heads bodies n m))
-      → all₂ ≡ withRows (programIn heads bodies n m) (allRow (programIn heads bodies n m)) all₁
-      → any₂ ≡ withRows (programIn heads bodies n m) (anyRow (programIn heads bodies n m)) any₁
-      → model₂ ≡ withModel (startSet (programIn heads bodies n m)) model₁
+  pub call-done : k ≤ atoms → (o₁ : RowAreas) → o₁ .all ≡ filled rowArea (packed rowWords k only) (o .all)
+      → o₁ .any ≡ filled rowArea (packed rowWords k (λ i. emptySet)) (o .any) → o₁ .model ≡ withModel emptySet (o .model)
+      → (c h : ℕ) (o₂ : RowAreas) → Filled (programIn tables counts) c o₁ o₂
       → h ≡ count (bodyWords * wordBits) (row (part 0 bodyWords marked))
-      → record { number = 0; atoms = n + helpers; c = c; h = h; areas = record { all = all₂; any = any₂; model = model₂ } }
-      ≡ standardCall heads bodies n m o″
-  call-done l all₁ any₁ model₁ x y z c h all₂ any₂ model₂ counted u v w many =
-      rows-well heads bodies n m formed marked s helpers q l all any model all₁ any₁ model₁ x y z c h all₂ any₂ model₂ counted u v w many
-      ∙ sym
-      (standard-good heads bodies n m o″ (long-tables heads bodies o″ long) formed
-      (few heads bodies n m formed marked s helpers q l))
+      → record { number = 0; atoms = k; c = c; h = h; areas = o₂ } ≡ standardCall tables counts o
+  call-done l o₁ x y z c h o₂ f many =
+      rows-well tables counts formed marked s helpers q l o o₁ x y z c h o₂ f many
+      ∙ sym (standard-good tables counts o (long-tables tables o long) formed (few tables counts formed marked s helpers q l))

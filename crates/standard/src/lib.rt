@@ -49,10 +49,19 @@ pub fn standardise_formed(
     model: &mut [u64],
     fresh: bool,
 ) -> Answer
-    requires { ⌜ StandardLong (now heads) (now bodies) (record { all = now all; any = now any; model = now model }) × (formedTables (now heads) (now bodies) n m ≡ true) ⌝ }
+    requires { ⌜ StandardLong (record { heads = now heads; bodies = now bodies })
+        (record { all = now all; any = now any; model = now model })
+        × (formedTables (record { heads = now heads; bodies = now bodies }) (record { names = n; rules = m }) ≡ true) ⌝ }
     requires { ⌜ (fresh ≡ true → Clear rowArea (now all) × Clear rowArea (now any)) ⌝ }
-    ensures { λ r. ⌜ record { number = r .number; atoms = r .atoms; c = r .c; h = r .h; areas = record { all = now (all .exit); any = now (any .exit); model = now (model .exit) } }
-        ≡ standardCall (now (heads .entry)) (now (bodies .entry)) n m (record { all = now (all .entry); any = now (any .entry); model = now (model .entry) }) ⌝ }
+    ensures { λ r. ⌜ record {
+      number = r .number;
+      atoms = r .atoms;
+      c = r .c;
+      h = r .h;
+      areas = record { all = now (all .exit); any = now (any .exit); model = now (model .exit) };
+    }
+        ≡ standardCall (record { heads = now (heads .entry); bodies = now (bodies .entry) }) (record { names = n; rules = m })
+        (record { all = now (all .entry); any = now (any .entry); model = now (model .entry) }) ⌝ }
 {
     let several = ways::several(heads, m);
     let atoms = n + ways::helpers(heads, m, &several);
@@ -85,8 +94,15 @@ pub fn standardise(
     any: &mut [u64],
     model: &mut [u64],
 ) -> Answer
-    ensures { λ r. ⌜ record { number = r .number; atoms = r .atoms; c = r .c; h = r .h; areas = record { all = now (all .exit); any = now (any .exit); model = now (model .exit) } }
-        ≡ standardCall (now (heads .entry)) (now (bodies .entry)) n m (record { all = now (all .entry); any = now (any .entry); model = now (model .entry) }) ⌝ }
+    ensures { λ r. ⌜ record {
+      number = r .number;
+      atoms = r .atoms;
+      c = r .c;
+      h = r .h;
+      areas = record { all = now (all .exit); any = now (any .exit); model = now (model .exit) };
+    }
+        ≡ standardCall (record { heads = now (heads .entry); bodies = now (bodies .entry) }) (record { names = n; rules = m })
+        (record { all = now (all .entry); any = now (any .entry); model = now (model .entry) }) ⌝ }
 {
     if too_short(heads.len(), bodies.len(), all.len(), any.len(), model.len()) {
         return Answer {

@@ -14,40 +14,52 @@ use Rattle.sets.specs.Set.{Set, every, exists, within}
 use Rattle.sets.proofs.Logic.{either, clash, not-true, and-left, and-right, and-make, of-not, not-of-false, pick-true, pick-false}
 use Rattle.sets.proofs.Tests.{every-at, every-make, exists-find, exists-none, within-at, within-make}
 use Rattle.program.specs.Program.{Rule, WellFormed, blank, size, headAt, bodyAt}
-use Rattle.tables.specs.Areas.{ruleAt, rulesOnly, programIn}
+use Rattle.tables.specs.Areas.{RuleTables, Counts, ruleAt, rulesOnly, programIn}
 use Rattle.tables.proofs.Encoding.{length-rulesFrom, getD-rulesFrom}
 use Rattle.systems.specs.Rows.{rowIn}
 use Rattle.systems.specs.Standardise.{formedEntry, formedTables}
 use Rattle.systems.specs.Claims.{StandardFormed}
 use Rattle.systems.proofs.Packed.{row-in-past}
 
-module _ (heads bodies : List ℕ) (n m : ℕ) where
+module _ (tables : RuleTables) (counts : Counts) where
+  abbrev heads : List ℕ
+  heads = tables .heads
+
+  abbrev bodies : List ℕ
+  bodies = tables .bodies
+
+  abbrev n : ℕ
+  n = counts .names
+
+  abbrev m : ℕ
+  m = counts .rules
+
   -- as many rules as are asked for
-  pub size-in : size (programIn heads bodies n m) ≡ m
+  pub size-in : size (programIn tables counts) ≡ m
   size-in = length-rulesFrom (rulesOnly heads bodies) m 0
 
   -- rule j as it stands in its row
-  rule-in : (j : ℕ) → j < m → getD (programIn heads bodies n m .rules) j blank ≡ ruleAt (rulesOnly heads bodies) j
+  rule-in : (j : ℕ) → j < m → getD (programIn tables counts .rules) j blank ≡ ruleAt (rulesOnly heads bodies) j
   rule-in j l = getD-rulesFrom (rulesOnly heads bodies) m 0 j l ∙ ap (ruleAt (rulesOnly heads bodies)) (zero-add j)
 
-  pub head-in : (j : ℕ) → j < m → headAt (programIn heads bodies n m) j ≡ getD heads j 0
+  pub head-in : (j : ℕ) → j < m → headAt (programIn tables counts) j ≡ getD heads j 0
   unfolding ruleAt
   head-in j l = ap (λ (r : Rule ℕ). r .head) (rule-in j l)
 
-  pub body-in : (j : ℕ) → j < m → bodyAt (programIn heads bodies n m) j ≡ rowIn bodyWords bodies j
+  pub body-in : (j : ℕ) → j < m → bodyAt (programIn tables counts) j ≡ rowIn bodyWords bodies j
   unfolding ruleAt
   body-in j l = ap (λ (r : Rule ℕ). r .body) (rule-in j l)
 
   -- An entry of the tables below the rule count, and one past it.
 
-  pub entry-used : (j : ℕ) → j < m → formedEntry heads bodies n m j
+  pub entry-used : (j : ℕ) → j < m → formedEntry tables counts j
       ≡ ltb (getD heads j 0) n && within (bodyWords * wordBits) (rowIn bodyWords bodies j) (λ a. ltb a n)
   unfolding formedEntry
   entry-used j l =
       pick-true (ltb (getD heads j 0) n && within (bodyWords * wordBits) (rowIn bodyWords bodies j) (λ a. ltb a n))
       (eqb (getD heads j 0) 0 && not (exists (bodyWords * wordBits) (rowIn bodyWords bodies j))) (lt-ltb j m l)
 
-  pub entry-unused : (j : ℕ) → m ≤ j → formedEntry heads bodies n m j
+  pub entry-unused : (j : ℕ) → m ≤ j → formedEntry tables counts j
       ≡ eqb (getD heads j 0) 0 && not (exists (bodyWords * wordBits) (rowIn bodyWords bodies j))
   unfolding formedEntry
   entry-unused j l =
@@ -62,16 +74,16 @@ module _ (heads bodies : List ℕ) (n m : ℕ) where
 
   -- Tables in order.
 
-  module _ (formed : formedTables heads bodies n m ≡ true) where
+  module _ (formed : formedTables tables counts ≡ true) where
     limits : leb n names && leb m rules ≡ true
     unfolding formedTables
-    limits = and-left (leb n names && leb m rules) (every rules (formedEntry heads bodies n m)) formed
+    limits = and-left (leb n names && leb m rules) (every rules (formedEntry tables counts)) formed
 
-    entries : (j : ℕ) → j < rules → formedEntry heads bodies n m j ≡ true
+    entries : (j : ℕ) → j < rules → formedEntry tables counts j ≡ true
     unfolding formedTables
     entries =
-        every-at rules (formedEntry heads bodies n m)
-        (and-right (leb n names && leb m rules) (every rules (formedEntry heads bodies n m)) formed)
+        every-at rules (formedEntry tables counts)
+        (and-right (leb n names && leb m rules) (every rules (formedEntry tables counts)) formed)
 
     pub formed-limits : (n ≤ names) × (m ≤ rules)
     formed-limits = (
@@ -104,7 +116,7 @@ module _ (heads bodies : List ℕ) (n m : ℕ) where
               (of-not (exists (bodyWords * wordBits) (rowIn bodyWords bodies j)) (and-right head body e)) a (body-width j a t))),
         )
 
-    pub formed-tables : StandardFormed heads bodies n m
+    pub formed-tables : StandardFormed tables counts
     formed-tables = record {
       names-limit = formed-limits .0;
       rules-limit = formed-limits .1;
@@ -115,7 +127,7 @@ module _ (heads bodies : List ℕ) (n m : ℕ) where
     }
 
     -- so the program's heads and bodies are of its names
-    pub formed-program : WellFormed (programIn heads bodies n m)
+    pub formed-program : WellFormed (programIn tables counts)
     formed-program = record {
       heads = λ j l.
           let b : j < m = subst (λ (k : ℕ). j < k) size-in l in
@@ -126,11 +138,11 @@ module _ (heads bodies : List ℕ) (n m : ℕ) where
     }
 
   -- and tables that are as document 01 asks are in order
-  pub tables-formed : StandardFormed heads bodies n m → formedTables heads bodies n m ≡ true
+  pub tables-formed : StandardFormed tables counts → formedTables tables counts ≡ true
   unfolding formedTables
   tables-formed f =
       and-make (and-make (le-leb n names (f .names-limit)) (le-leb m rules (f .rules-limit)))
-      (every-make rules (formedEntry heads bodies n m) (λ j b.
+      (every-make rules (formedEntry tables counts) (λ j b.
       either (ltb j m)
       (λ t.
       let l : j < m = ltb-true j m t in

@@ -21,7 +21,7 @@ use Rattle.program.specs.System.{System, round, unfolded, roundsOf, heldBy}
 use Rattle.program.proofs.Folds.{round-folded}
 use Rattle.program.proofs.Alike as Alike
 use Rattle.tables.proofs.Encoding.{drop-begun}
-use Rattle.systems.specs.Rows.{below, formedRows}
+use Rattle.systems.specs.Rows.{RowAreas, below, formedRows}
 use Rattle.systems.specs.Rounds.{RoundsOutcome, modelIn, withModel, systemIn, shortSystem, formedSystem, startKept, roundsRefusal, runOf, roundsCall}
 use Rattle.systems.specs.Claims.{RoundsLong, RoundsFormed, Lost, Runs}
 use Rattle.systems.proofs.Packed.{part-past, put-front, set-none, set-words, set-row, length-set, set-again, set-same, set-known, set-joined, set-below, set-below-past}
@@ -175,68 +175,71 @@ lost s e =
     (λ u. clash (and-make p (not-of-false (round s (s .start) i) u)) (exists-none m gone t i l))))
     e)
 
-module _ (all any model : List ℕ) where
+module _ (o : RowAreas) where
+  abbrev model : List ℕ
+  model = o .model
+
   abbrev shortAll : Bool
-  shortAll = ltb (length all) rowArea
+  shortAll = ltb (length (o .all)) rowArea
 
   abbrev shortAny : Bool
-  shortAny = ltb (length any) rowArea
+  shortAny = ltb (length (o .any)) rowArea
 
   abbrev shortModel : Bool
   shortModel = ltb (length model) rowWords
 
-  pub long-at : shortSystem all any model ≡ false → RoundsLong all any model
+  pub long-at : shortSystem o ≡ false → RoundsLong o
   unfolding shortSystem
   long-at e = (
-    ltb-false (length all) rowArea (not-true shortAll (λ t. clash (or-left (shortAny || shortModel) t) e)),
-    ltb-false (length any) rowArea (not-true shortAny (λ t. clash (or-right shortAll (or-left shortModel t)) e)),
+    ltb-false (length (o .all)) rowArea (not-true shortAll (λ t. clash (or-left (shortAny || shortModel) t) e)),
+    ltb-false (length (o .any)) rowArea (not-true shortAny (λ t. clash (or-right shortAll (or-left shortModel t)) e)),
     ltb-false (length model) rowWords (not-true shortModel (λ t. clash (or-right shortAll (or-right shortAny t)) e)),
   )
 
-  pub long-make : RoundsLong all any model → shortSystem all any model ≡ false
+  pub long-make : RoundsLong o → shortSystem o ≡ false
   unfolding shortSystem
-  long-make h = rw (le-ltb (length all) rowArea (h .0), le-ltb (length any) rowArea (h .1), le-ltb (length model) rowWords (h .2))
+  long-make h = rw (le-ltb (length (o .all)) rowArea (h .0), le-ltb (length (o .any)) rowArea (h .1), le-ltb (length model) rowWords (h .2))
 
   module _ (m : ℕ) where
     abbrev rowsAll : Bool
-    rowsAll = formedRows rowWords atoms m all
+    rowsAll = formedRows rowWords atoms m (o .all)
 
     abbrev rowsAny : Bool
-    rowsAny = formedRows rowWords atoms m any
+    rowsAny = formedRows rowWords atoms m (o .any)
 
     abbrev inModel : Bool
     inModel = within (rowWords * wordBits) (modelIn model) (λ k. ltb k m)
 
-    pub in-order : formedSystem all any model m ≡ true → RoundsFormed all any model m
+    pub in-order : formedSystem o m ≡ true → RoundsFormed o m
     unfolding formedSystem
     in-order e =
         let d : rowsAll && (rowsAny && inModel) ≡ true = and-right (leb m atoms) (rowsAll && (rowsAny && inModel)) e in
         let c : rowsAny && inModel ≡ true = and-right rowsAll (rowsAny && inModel) d in
         let b : inModel ≡ true = and-right rowsAny inModel c in (
           leb-true m atoms (and-left (leb m atoms) (rowsAll && (rowsAny && inModel)) e),
-          formed-at rowWords atoms m all (and-left rowsAll (rowsAny && inModel) d),
-          formed-at rowWords atoms m any (and-left rowsAny inModel c),
+          formed-at rowWords atoms m (o .all) (and-left rowsAll (rowsAny && inModel) d),
+          formed-at rowWords atoms m (o .any) (and-left rowsAny inModel c),
           ends-at m (modelIn model) (ends-within m (rowWords * wordBits) (modelIn model) (part-past 0 rowWords model) b),
         )
 
-    pub order-make : RoundsFormed all any model m → formedSystem all any model m ≡ true
+    pub order-make : RoundsFormed o m → formedSystem o m ≡ true
     unfolding formedSystem
     order-make h =
         and-make (le-leb m atoms (h .0))
-        (and-make (formed-make rowWords atoms m all (h .1)) (and-make (formed-make rowWords atoms m any (h .2))
+        (and-make (formed-make rowWords atoms m (o .all) (h .1)) (and-make (formed-make rowWords atoms m (o .any) (h .2))
         (within-make (rowWords * wordBits) (modelIn model) (λ k. ltb k m) (λ k l t. lt-ltb k m (h .3 k t)))))
 
     abbrev s : System
-    s = systemIn all any model m
+    s = systemIn o m
 
     -- areas long enough, rows in order and the start set kept: the rounds
-    pub call-runs : RoundsLong all any model → RoundsFormed all any model m → startKept s ≡ true
-        → roundsCall all any model m ≡ runOf s model
+    pub call-runs : RoundsLong o → RoundsFormed o m → startKept s ≡ true
+        → roundsCall o m ≡ runOf s model
     unfolding roundsCall pick
     call-runs l f e = rw (long-make l, order-make f, e, pick)
 
     -- the four ways out, each with what it is claimed to be
-    way-short : (RoundsLong all any model → ⊥) → Runs all any model m s (roundsRefusal 1 model)
+    way-short : (RoundsLong o → ⊥) → Runs o m s (roundsRefusal 1 model)
     way-short h = record {
       accepts = (λ q. absurd (omega arith), λ p. absurd (h (p .0)));
       short = (λ q. h, λ q. refl);
@@ -249,8 +252,8 @@ module _ (all any model : List ℕ) where
       past = λ q. absurd (omega arith);
     }
 
-    module _ (long : RoundsLong all any model) where
-      way-ill : (RoundsFormed all any model m → ⊥) → Runs all any model m s (roundsRefusal 10 model)
+    module _ (long : RoundsLong o) where
+      way-ill : (RoundsFormed o m → ⊥) → Runs o m s (roundsRefusal 10 model)
       way-ill h = record {
         accepts = (λ q. absurd (omega arith), λ p. absurd (h (p .1)));
         short = (λ q. absurd (omega arith), λ p. absurd (p long));
@@ -263,8 +266,8 @@ module _ (all any model : List ℕ) where
         past = λ q. absurd (omega arith);
       }
 
-      module _ (formed : RoundsFormed all any model m) where
-        way-lost : Lost s → Runs all any model m s (roundsRefusal 11 model)
+      module _ (formed : RoundsFormed o m) where
+        way-lost : Lost s → Runs o m s (roundsRefusal 11 model)
         way-lost h = record {
           accepts = (λ q. absurd (omega arith), λ p. clash (p .2 (h .0) (h .1) (h .2)) (h .3));
           short = (λ q. absurd (omega arith), λ p. absurd (p long));
@@ -277,7 +280,7 @@ module _ (all any model : List ℕ) where
           past = λ q. absurd (omega arith);
         }
 
-        way-run : startKept s ≡ true → Runs all any model m s (runOf s model)
+        way-run : startKept s ≡ true → Runs o m s (runOf s model)
         unfolding runOf roundsOf heldBy
         way-run e =
             let w : Within m (s .start) (round s (s .start)) = start-rises s e in
@@ -299,23 +302,23 @@ module _ (all any model : List ℕ) where
             }
 
 -- what is claimed of the rounds call
-pub runs : (all any model : List ℕ) (m : ℕ) → Runs all any model m (systemIn all any model m) (roundsCall all any model m)
+pub runs : (o : RowAreas) (m : ℕ) → Runs o m (systemIn o m) (roundsCall o m)
 unfolding roundsCall
-runs all any model m =
-    let s : System = systemIn all any model m in
-    let refused : RoundsOutcome = roundsRefusal 1 model in
-    let lost-out : RoundsOutcome = pick (startKept s) (runOf s model) (roundsRefusal 11 model) in
-    let rest : RoundsOutcome = pick (formedSystem all any model m) lost-out (roundsRefusal 10 model) in
-    let P : RoundsOutcome → Type 0 = λ r. Runs all any model m s r in
-    either (shortSystem all any model)
-    (λ e. subst P (sym (pick-true refused rest e)) (way-short all any model m (λ p. clash e (long-make all any model p))))
+runs o m =
+    let s : System = systemIn o m in
+    let refused : RoundsOutcome = roundsRefusal 1 (o .model) in
+    let lost-out : RoundsOutcome = pick (startKept s) (runOf s (o .model)) (roundsRefusal 11 (o .model)) in
+    let rest : RoundsOutcome = pick (formedSystem o m) lost-out (roundsRefusal 10 (o .model)) in
+    let P : RoundsOutcome → Type 0 = λ r. Runs o m s r in
+    either (shortSystem o)
+    (λ e. subst P (sym (pick-true refused rest e)) (way-short o m (λ p. clash e (long-make o p))))
     (λ e. subst P (sym (pick-false refused rest e))
-    (let l = long-at all any model e in
-    either (formedSystem all any model m)
-    (λ f. subst P (sym (pick-true lost-out (roundsRefusal 10 model) f))
-    (let g = in-order all any model m f in
+    (let l = long-at o e in
+    either (formedSystem o m)
+    (λ f. subst P (sym (pick-true lost-out (roundsRefusal 10 (o .model)) f))
+    (let g = in-order o m f in
     either (startKept s)
-    (λ k. subst P (sym (pick-true (runOf s model) (roundsRefusal 11 model) k)) (way-run all any model m l g k))
-    (λ k. subst P (sym (pick-false (runOf s model) (roundsRefusal 11 model) k)) (way-lost all any model m l g (lost s k)))))
-    (λ f. subst P (sym (pick-false lost-out (roundsRefusal 10 model) f))
-    (way-ill all any model m l (λ p. clash (order-make all any model m p) f)))))
+    (λ k. subst P (sym (pick-true (runOf s (o .model)) (roundsRefusal 11 (o .model)) k)) (way-run o m l g k))
+    (λ k. subst P (sym (pick-false (runOf s (o .model)) (roundsRefusal 11 (o .model)) k)) (way-lost o m l g (lost s k)))))
+    (λ f. subst P (sym (pick-false lost-out (roundsRefusal 10 (o .model)) f))
+    (way-ill o m l (λ p. clash (order-make o m p) f)))))

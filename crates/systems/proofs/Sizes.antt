@@ -9,7 +9,7 @@ use native.Mathlib.Nat.{le-trans, suc-mul, mul-le-mul-right}
 use native.Mathlib.Omega.{arith}
 use lib.Dec.{eqb, leb, ltb}
 use borrow.Author.Tests.{ltb-true, lt-ltb}
-use lib.ListN.{length, take, drop, replicate, length-take, take-append-drop}
+use lib.ListN.{length, getD, take, drop, replicate, length-take, take-append-drop}
 use lib.Seq.{getD-take, take-take, slice-empty, ext-getD}
 use Rattle.limits.specs.Book.{names, rules, atoms, wordBits, rowWords, bodyWords, bodyArea, rowArea}
 use Rattle.sets.specs.Set.{Set, Same, pick, exists, within}
@@ -21,14 +21,14 @@ use Rattle.words.proofs.Rows.{length-pack}
 use Rattle.program.specs.Program.{Rule, Program, blank}
 use Rattle.program.specs.System.{System, round, unfoldOnce, unfolded, roundsOf, heldBy}
 use Rattle.program.specs.Standard.{allRow, anyRow, startSet, standard}
-use Rattle.tables.specs.Areas.{Areas, filled, ruleAt, rulesFrom, rulesOnly, programIn}
+use Rattle.tables.specs.Areas.{Areas, RuleTables, Counts, filled, ruleAt, rulesFrom, rulesOnly, programIn}
 use Rattle.tables.specs.Begun.{begun}
 use Rattle.tables.proofs.Encoding.{length-rulesFrom, getD-rulesFrom}
-use Rattle.systems.specs.Rows.{rowIn, packed, below, formedRows}
+use Rattle.systems.specs.Rows.{RowAreas, rowIn, packed, below, formedRows}
 use Rattle.systems.specs.Fold.{FoldOutcome, shortRows, formedAll, foldRefusal, foldedArea, foldCall}
 use Rattle.systems.specs.Rounds.{RoundsOutcome, modelIn, withModel, systemIn, shortSystem, formedSystem, startKept, roundsRefusal, runOf, roundsCall}
-use Rattle.systems.specs.Standardise.{RowAreas, StandardOutcome, shortTables, formedEntry, formedTables, standardRefusal, standardRows, standardOf, standardCall}
-use Rattle.systems.specs.Sizes.{foldWithRest, roundsWithRest, statedRows, rowsWithRest, standardWithRest, StatedSizes}
+use Rattle.systems.specs.Standardise.{StandardOutcome, shortRules, shortTables, formedEntry, formedTables, standardRefusal, standardRows, standardOf, standardCall}
+use Rattle.systems.specs.Sizes.{foldWithRest, roundsWithRest, statedTables, statedRows, rowsWithRest, standardWithRest, StatedSizes}
 use Rattle.systems.proofs.Packed.{length-packed, packed-same}
 use Rattle.systems.proofs.Formed.{round-same}
 use Rattle.systems.proofs.Bridge.{formed-limits}
@@ -158,20 +158,28 @@ with-model-first f model = begun-first rowWords (pack rowWords f) model (omega (
 
 -- The rounds call.
 
-module _ (all any model : List ℕ) (m : ℕ) where
+short-system-first : (o : RowAreas) → shortSystem o ≡ shortSystem (statedRows o)
+unfolding shortSystem
+short-system-first o =
+    ap₂ _||_ (short-first rowArea (o .all)) (ap₂ _||_ (short-first rowArea (o .any)) (short-first rowWords (o .model)))
+
+module _ (o : RowAreas) (m : ℕ) where
+  abbrev model : List ℕ
+  model = o .model
+
   -- the system of the areas, and that of their first entries
   abbrev s : System
-  s = systemIn all any model m
+  s = systemIn o m
 
   abbrev s′ : System
-  s′ = systemIn (take rowArea all) (take rowArea any) (take rowWords model) m
+  s′ = systemIn (statedRows o) m
 
-  formed-system-first : formedSystem all any model m ≡ formedSystem (take rowArea all) (take rowArea any) (take rowWords model) m
+  formed-system-first : formedSystem o m ≡ formedSystem (statedRows o) m
   unfolding formedSystem
   formed-system-first =
       ap (λ (b : Bool). leb m atoms && b)
-      (ap₂ _&&_ (formed-first rowWords atoms m rowArea all (omega arith))
-      (ap₂ _&&_ (formed-first rowWords atoms m rowArea any (omega arith))
+      (ap₂ _&&_ (formed-first rowWords atoms m rowArea (o .all) (omega arith))
+      (ap₂ _&&_ (formed-first rowWords atoms m rowArea (o .any) (omega arith))
       (ap (λ (f : Set). within (rowWords * wordBits) f (λ k. ltb k m)) (model-first model))))
 
   module _ (l : m ≤ atoms) where
@@ -182,8 +190,8 @@ module _ (all any model : List ℕ) (m : ℕ) where
     -- and make the same rounds
     agree : (v w : Set) → Same m v w → Same m (round s v) (round s′ w)
     agree =
-        round-same s s′ refl (λ i b a c. ap (λ (f : Set). f a) (row-first rowWords m rowArea all (omega arith) i b))
-        (λ i b a c. ap (λ (f : Set). f a) (row-first rowWords m rowArea any (omega arith) i b))
+        round-same s s′ refl (λ i b a c. ap (λ (f : Set). f a) (row-first rowWords m rowArea (o .all) (omega arith) i b))
+        (λ i b a c. ap (λ (f : Set). f a) (row-first rowWords m rowArea (o .any) (omega arith) i b))
 
     kept-first : startKept s ≡ startKept s′
     unfolding startKept
@@ -204,18 +212,17 @@ module _ (all any model : List ℕ) (m : ℕ) where
           model = last i;
         }
 
-  rounds-first : roundsCall all any model m ≡ roundsWithRest model (roundsCall (take rowArea all) (take rowArea any) (take rowWords model) m)
-  unfolding roundsCall shortSystem
+  rounds-first : roundsCall o m ≡ roundsWithRest model (roundsCall (statedRows o) m)
+  unfolding roundsCall
   rounds-first =
       let rest : RoundsOutcome → RoundsOutcome = roundsWithRest model in
       let refused : (n : ℕ) → roundsRefusal n model ≡ rest (roundsRefusal n (take rowWords model)) =
       λ n i. roundsRefusal n (both-parts rowWords model i)
       in
-      pick-first rest (ap₂ _||_ (short-first rowArea all) (ap₂ _||_ (short-first rowArea any) (short-first rowWords model)))
-      (λ t. refused 1)
+      pick-first rest (short-system-first o) (λ t. refused 1)
       (pick-first rest formed-system-first
       (λ t.
-      let l : m ≤ atoms = in-order all any model m t .0 in
+      let l : m ≤ atoms = in-order o m t .0 in
       pick-first rest (kept-first l) (λ u. run-first l) (refused 11))
       (refused 10))
 
@@ -229,30 +236,33 @@ rules-alike o o′ m h =
     let b : j < m = omega (arith, length-rulesFrom o m 0) in
     getD-rulesFrom o m 0 j b ∙ h (0 + j) (omega arith) ∙ sym (getD-rulesFrom o′ m 0 j b))
 
-module _ (heads bodies : List ℕ) (n m : ℕ) where
-  body-first : (j : ℕ) → j < rules → rowIn bodyWords bodies j ≡ rowIn bodyWords (take bodyArea bodies) j
-  body-first = row-first bodyWords rules bodyArea bodies (omega arith)
+module _ (tables : RuleTables) (counts : Counts) where
+  head-first : (j : ℕ) → j < rules → getD (tables .heads) j 0 ≡ getD (statedTables tables .heads) j 0
+  head-first j l = sym (getD-take rules (tables .heads) j 0 l)
 
-  entry-first : (j : ℕ) → j < rules → formedEntry heads bodies n m j ≡ formedEntry (take rules heads) (take bodyArea bodies) n m j
+  body-first : (j : ℕ) → j < rules → rowIn bodyWords (tables .bodies) j ≡ rowIn bodyWords (statedTables tables .bodies) j
+  body-first = row-first bodyWords rules bodyArea (tables .bodies) (omega arith)
+
+  entry-first : (j : ℕ) → j < rules → formedEntry tables counts j ≡ formedEntry (statedTables tables) counts j
   unfolding formedEntry
   entry-first j l =
-      ap₂ (λ (x : ℕ) (f : Set). pick (ltb j m) (ltb x n && within (bodyWords * wordBits) f (λ a. ltb a n))
+      ap₂ (λ (x : ℕ) (f : Set). pick (ltb j (counts .rules))
+      (ltb x (counts .names) && within (bodyWords * wordBits) f (λ a. ltb a (counts .names)))
       (eqb x 0 && not (exists (bodyWords * wordBits) f)))
-      (sym (getD-take rules heads j 0 l)) (body-first j l)
+      (head-first j l) (body-first j l)
 
-  formed-tables-first : formedTables heads bodies n m ≡ formedTables (take rules heads) (take bodyArea bodies) n m
+  formed-tables-first : formedTables tables counts ≡ formedTables (statedTables tables) counts
   unfolding formedTables
   formed-tables-first =
-      ap (λ (b : Bool). (leb n names && leb m rules) && b)
-      (every-same rules (formedEntry heads bodies n m) (formedEntry (take rules heads) (take bodyArea bodies) n m) entry-first)
+      ap (λ (b : Bool). (leb (counts .names) names && leb (counts .rules) rules) && b)
+      (every-same rules (formedEntry tables counts) (formedEntry (statedTables tables) counts) entry-first)
 
-  program-first : m ≤ rules → programIn heads bodies n m ≡ programIn (take rules heads) (take bodyArea bodies) n m
+  program-first : counts .rules ≤ rules → programIn tables counts ≡ programIn (statedTables tables) counts
   unfolding ruleAt
   program-first b =
-      ap (λ (rs : List (Rule ℕ)). record { names = n; rules = rs })
-      (rules-alike (rulesOnly heads bodies) (rulesOnly (take rules heads) (take bodyArea bodies)) m
-      (λ j l. ap₂ (λ (x : ℕ) (f : Set). record { head = x; body = f })
-      (sym (getD-take rules heads j 0 (le-trans l b))) (body-first j (le-trans l b))))
+      ap (λ (rs : List (Rule ℕ)). record { names = counts .names; rules = rs })
+      (rules-alike (rulesOnly (tables .heads) (tables .bodies)) (rulesOnly (statedTables tables .heads) (statedTables tables .bodies)) (counts .rules)
+      (λ j l. ap₂ (λ (x : ℕ) (f : Set). record { head = x; body = f }) (head-first j (le-trans l b)) (body-first j (le-trans l b))))
 
 module _ (o : RowAreas) where
   refused-first : (k : ℕ) → standardRefusal k o ≡ standardWithRest o (standardRefusal k (statedRows o))
@@ -280,22 +290,21 @@ module _ (o : RowAreas) where
       let r : StandardOutcome = standardWell p o in
       record { number = 0; atoms = r .atoms; c = r .c; h = r .h; areas = rows-first p i })
 
-  module _ (heads bodies : List ℕ) (n m : ℕ) where
-    standard-first : standardCall heads bodies n m o
-        ≡ standardWithRest o (standardCall (take rules heads) (take bodyArea bodies) n m (statedRows o))
-    unfolding standardCall shortTables
+  module _ (tables : RuleTables) (counts : Counts) where
+    standard-first : standardCall tables counts o
+        ≡ standardWithRest o (standardCall (statedTables tables) counts (statedRows o))
+    unfolding standardCall shortTables shortRules
     standard-first =
         let rest : StandardOutcome → StandardOutcome = standardWithRest o in
         pick-first rest
-        (ap₂ _||_ (short-first rules heads)
-        (ap₂ _||_ (short-first bodyArea bodies)
-        (ap₂ _||_ (short-first rowArea (o .all)) (ap₂ _||_ (short-first rowArea (o .any)) (short-first rowWords (o .model))))))
+        (ap₂ _||_ (ap₂ _||_ (short-first rules (tables .heads)) (short-first bodyArea (tables .bodies)))
+        (short-system-first o))
         (λ t. refused-first 1)
-        (pick-first rest (formed-tables-first heads bodies n m)
-        (λ t. standard-of-first (programIn heads bodies n m)
-        ∙ ap (λ (p : Program). rest (standardOf p (statedRows o))) (program-first heads bodies n m (formed-limits heads bodies n m t .1)))
+        (pick-first rest (formed-tables-first tables counts)
+        (λ t. standard-of-first (programIn tables counts)
+        ∙ ap (λ (p : Program). rest (standardOf p (statedRows o))) (program-first tables counts (formed-limits tables counts t .1)))
         (refused-first 10))
 
 -- the three calls
 pub stated-sizes : StatedSizes
-stated-sizes = record { fold = fold-first; rounds = rounds-first; standardise = λ heads bodies n m o. standard-first o heads bodies n m }
+stated-sizes = record { fold = fold-first; rounds = rounds-first; standardise = λ tables counts o. standard-first o tables counts }

@@ -20,13 +20,13 @@ use Rattle.program.specs.Standard.{allRow, anyRow, startSet, standard}
 use Rattle.program.specs.Claims.{LeastModel}
 use Rattle.program.proofs.Homes.{names-below}
 use Rattle.program.proofs.Theorems.{least-model}
-use Rattle.tables.specs.Areas.{programIn}
+use Rattle.tables.specs.Areas.{RuleTables, Counts, programIn}
 use Rattle.tables.proofs.Encoding.{length-begun, length-filled}
-use Rattle.systems.specs.Rows.{rowIn, packed}
+use Rattle.systems.specs.Rows.{RowAreas, rowIn, packed}
 use Rattle.systems.specs.Fold.{FoldOutcome, shortRows, formedAll, foldedArea, foldCall}
 use Rattle.systems.specs.Rounds.{RoundsOutcome, modelIn, systemIn, startKept, runOf}
-use Rattle.systems.specs.Standardise.{RowAreas, StandardOutcome, shortTables, formedTables, standardRows, standardOf, standardCall}
-use Rattle.systems.specs.Claims.{InCount, Folds, Standardises, foldAfter, roundsAfter, Stages}
+use Rattle.systems.specs.Standardise.{StandardOutcome, shortTables, formedTables, standardRows, standardOf, standardCall}
+use Rattle.systems.specs.Claims.{InCount, RoundsLong, Folds, Standardises, foldAfter, roundsAfter, Stages}
 use Rattle.systems.proofs.Packed.{length-packed}
 use Rattle.systems.proofs.Formed.{unfolded-in, unfolded-same, round-same}
 use Rattle.systems.proofs.Folds.{rows-long, all-formed, folds-rows}
@@ -53,12 +53,8 @@ length-fold all spare m k =
     (λ g. rw (e, f, g) (length-folded k m all (all-formed all m g .0) (rows-long all spare e .0)))
     (λ g. rw (e, f, g))))
 
--- areas of rows that are long enough
-abbrev Long : RowAreas → Type 0
-Long o = (rowArea ≤ length (o .all)) × (rowArea ≤ length (o .any)) × (rowWords ≤ length (o .model))
-
--- standardising leaves them so
-long-rows : (p : Program) (o : RowAreas) → standard p .atoms ≤ atoms → Long o → Long (standardRows p o)
+-- and standardising leaves areas of rows long enough
+long-rows : (p : Program) (o : RowAreas) → standard p .atoms ≤ atoms → RoundsLong o → RoundsLong (standardRows p o)
 unfolding standardRows
 long-rows p o b l =
     let rows : (f : ℕ → Set) → length (packed rowWords (standard p .atoms) f) ≡ standard p .atoms * rowWords =
@@ -68,41 +64,40 @@ long-rows p o b l =
       omega (arith, length-model (startSet p) (o .model) (l .2)),
     )
 
-long-standard : (heads bodies : List ℕ) (n m : ℕ) (o : RowAreas)
-    → standard (programIn heads bodies n m) .atoms ≤ atoms → Long o → Long (standardCall heads bodies n m o .areas)
+long-standard : (tables : RuleTables) (counts : Counts) (o : RowAreas)
+    → standard (programIn tables counts) .atoms ≤ atoms → RoundsLong o → RoundsLong (standardCall tables counts o .areas)
 unfolding standardCall standardOf pick
-long-standard heads bodies n m o b l =
-    let p : Program = programIn heads bodies n m in
-    either (shortTables heads bodies o) (λ e. rw e l)
-    (λ e. either (formedTables heads bodies n m)
+long-standard tables counts o b l =
+    let p : Program = programIn tables counts in
+    either (shortTables tables o) (λ e. rw e l)
+    (λ e. either (formedTables tables counts)
     (λ f. either (ltb atoms (standard p .atoms)) (λ g. rw (e, f, g) l) (λ g. rw (e, f, g) (long-rows p o b l)))
     (λ f. rw (e, f) l))
 
 -- What standardising has left, folded and run.
 module _
-    (heads bodies : List ℕ)
-    (n m : ℕ)
+    (tables : RuleTables)
+    (counts : Counts)
     (o : RowAreas)
     (spare : List ℕ)
     (k : ℕ)
-    (z : standardCall heads bodies n m o .number ≡ 0)
+    (z : standardCall tables counts o .number ≡ 0)
     (spare-long : rowArea ≤ length spare)
     (few : k ≤ folds)
   where
     abbrev p : Program
-    p = programIn heads bodies n m
+    p = programIn tables counts
 
     abbrev r : StandardOutcome
-    r = standardCall heads bodies n m o
+    r = standardCall tables counts o
 
-    st : Standardises heads bodies n m o p r
-    st = standardises heads bodies n m o
+    st : Standardises tables counts o p r
+    st = standardises tables counts o
 
-    long : Long (r .areas)
+    long : RoundsLong (r .areas)
     long =
         let a = st .accepts .0 z in
-        let w = a .0 in
-        long-standard heads bodies n m o (a .2) (w .2, w .3, w .4)
+        long-standard tables counts o (a .2) (a .0 .1)
 
     -- the atom count, within its limit
     abbrev M : ℕ
@@ -152,9 +147,12 @@ module _
     fold-number : F .number ≡ 0
     fold-number = fold-claims .accepts .1 ((long .0, spare-long), few, (limit, all-in))
 
-    -- the system in the rows, and the definition's after k folds
+    -- the areas then, the system in them, and the definition's after k folds
+    abbrev after : RowAreas
+    after = record { all = F .all; any = r .areas .any; model = r .areas .model }
+
     abbrev S : System
-    S = systemIn (F .all) (r .areas .any) (r .areas .model) M
+    S = systemIn after M
 
     abbrev D : System
     D = folded k (standard p)
@@ -191,7 +189,7 @@ module _
     runs-so : roundsAfter r spare k ≡ runOf S (r .areas .model)
     runs-so =
         let l : rowArea ≤ length (F .all) = omega (arith, long .0, length-fold (r .areas .all) spare M k) in
-        call-runs (F .all) (r .areas .any) (r .areas .model) M (l, long .1, long .2) (limit, folded-in, any-in, start-in) kept
+        call-runs after M (l, long .1, long .2) (limit, folded-in, any-in, start-in) kept
 
     -- and they and their last set are the definition's
     rounds-same : roundsAfter r spare k .rounds ≡ roundsOf D

@@ -2,7 +2,7 @@
 -- Assumes nothing.
 use mathlib.Core.Path.{_≡_, refl, sym, _∙_, subst}
 use mathlib.Core.Logic.{_↔_}
-use mathlib.Core.Bool.{Bool, true, false, not, _||_}
+use mathlib.Core.Bool.{Bool, true, false, not}
 use mathlib.Core.List.{List}
 use Prim.Native.Nat.{ℕ, _*_, _≤_, _<_}
 use native.Mathlib.Nat.{le-trans}
@@ -21,14 +21,14 @@ use Rattle.program.specs.System.{Regular, anyHead}
 use Rattle.program.specs.Standard.{home, hasBody, countedAtoms, allRow, anyRow, startSet, standard}
 use Rattle.program.proofs.Homes.{helper-below, names-below, home-below, any-find}
 use Rattle.program.proofs.Theorems.{kinds, standard-regular}
-use Rattle.tables.specs.Areas.{filled, programIn}
-use Rattle.systems.specs.Rows.{rowIn, packed}
-use Rattle.systems.specs.Rounds.{modelIn, withModel}
-use Rattle.systems.specs.Standardise.{RowAreas, StandardOutcome, shortTables, formedTables, standardRefusal, standardRows, standardOf, standardCall}
-use Rattle.systems.specs.Claims.{StandardLong, StandardFormed, Standardises, standardIn}
+use Rattle.tables.specs.Areas.{RuleTables, Counts, filled, programIn}
+use Rattle.systems.specs.Rows.{RowAreas, rowIn, packed}
+use Rattle.systems.specs.Rounds.{modelIn, withModel, shortSystem}
+use Rattle.systems.specs.Standardise.{StandardOutcome, shortRules, shortTables, formedTables, standardRefusal, standardRows, standardOf, standardCall}
+use Rattle.systems.specs.Claims.{TablesLong, StandardLong, StandardFormed, Standardises, standardIn}
 use Rattle.systems.proofs.Packed.{part-past, row-in-past, row-filled, row-filled-past}
 use Rattle.systems.proofs.Bridge.{formed-tables, formed-program, tables-formed}
-use Rattle.systems.proofs.Running.{model-row}
+use Rattle.systems.proofs.Running.{model-row, long-at, long-make}
 
 -- what the call returns and leaves where it takes the tables
 abbrev pub standardWell : Program → RowAreas → StandardOutcome
@@ -131,72 +131,61 @@ module _ (p : Program) (formed : WellFormed p) where
 
 -- The tests of the call.
 
-module _ (heads bodies : List ℕ) (o : RowAreas) where
-  abbrev shortHeads : Bool
-  shortHeads = ltb (length heads) rules
+-- rule tables of their stated sizes, or longer
+module _ (tables : RuleTables) where
+  pub rules-long : shortRules tables ≡ false → TablesLong tables
+  unfolding shortRules
+  rules-long e =
+      let h = or-none (ltb (length (tables .heads)) rules) (ltb (length (tables .bodies)) bodyArea) e in
+      (ltb-false (length (tables .heads)) rules (h .0), ltb-false (length (tables .bodies)) bodyArea (h .1))
 
-  abbrev shortBodies : Bool
-  shortBodies = ltb (length bodies) bodyArea
+  pub long-rules : TablesLong tables → shortRules tables ≡ false
+  unfolding shortRules
+  long-rules h = rw (le-ltb (length (tables .heads)) rules (h .0), le-ltb (length (tables .bodies)) bodyArea (h .1))
 
-  abbrev shortAll : Bool
-  shortAll = ltb (length (o .all)) rowArea
-
-  abbrev shortAny : Bool
-  shortAny = ltb (length (o .any)) rowArea
-
-  abbrev shortModel : Bool
-  shortModel = ltb (length (o .model)) rowWords
-
-  pub tables-long : shortTables heads bodies o ≡ false → StandardLong heads bodies o
+-- and the areas of rows with them
+module _ (tables : RuleTables) (o : RowAreas) where
+  pub tables-long : shortTables tables o ≡ false → StandardLong tables o
   unfolding shortTables
   tables-long e =
-      let h = or-none shortHeads (shortBodies || (shortAll || (shortAny || shortModel))) e in
-      let b = or-none shortBodies (shortAll || (shortAny || shortModel)) (h .1) in
-      let a = or-none shortAll (shortAny || shortModel) (b .1) in
-      let y = or-none shortAny shortModel (a .1) in (
-        ltb-false (length heads) rules (h .0),
-        ltb-false (length bodies) bodyArea (b .0),
-        ltb-false (length (o .all)) rowArea (a .0),
-        ltb-false (length (o .any)) rowArea (y .0),
-        ltb-false (length (o .model)) rowWords (y .1),
-      )
+      let h = or-none (shortRules tables) (shortSystem o) e in
+      (rules-long tables (h .0), long-at o (h .1))
 
-  pub long-tables : StandardLong heads bodies o → shortTables heads bodies o ≡ false
+  pub long-tables : StandardLong tables o → shortTables tables o ≡ false
   unfolding shortTables
-  long-tables h =
-      rw (le-ltb (length heads) rules (h .0), le-ltb (length bodies) bodyArea (h .1), le-ltb (length (o .all)) rowArea (h .2), le-ltb (length (o .any)) rowArea (h .3), le-ltb (length (o .model)) rowWords (h .4))
+  long-tables h = rw (long-rules tables (h .0), long-make o (h .1))
 
-module _ (heads bodies : List ℕ) (n m : ℕ) (o : RowAreas) where
+module _ (tables : RuleTables) (counts : Counts) (o : RowAreas) where
   abbrev p : Program
-  p = programIn heads bodies n m
+  p = programIn tables counts
 
   -- The ways out.
 
   abbrev after-short : StandardOutcome
-  after-short = pick (formedTables heads bodies n m) (standardOf p o) (standardRefusal 10 o)
+  after-short = pick (formedTables tables counts) (standardOf p o) (standardRefusal 10 o)
 
-  pub standard-short : shortTables heads bodies o ≡ true → standardCall heads bodies n m o ≡ standardRefusal 1 o
+  pub standard-short : shortTables tables o ≡ true → standardCall tables counts o ≡ standardRefusal 1 o
   unfolding standardCall
   standard-short e = pick-true (standardRefusal 1 o) after-short e
 
-  pub standard-ill : shortTables heads bodies o ≡ false → formedTables heads bodies n m ≡ false
-      → standardCall heads bodies n m o ≡ standardRefusal 10 o
+  pub standard-ill : shortTables tables o ≡ false → formedTables tables counts ≡ false
+      → standardCall tables counts o ≡ standardRefusal 10 o
   unfolding standardCall
   standard-ill e f = pick-false (standardRefusal 1 o) after-short e ∙ pick-false (standardOf p o) (standardRefusal 10 o) f
 
-  pub standard-formed : shortTables heads bodies o ≡ false → formedTables heads bodies n m ≡ true
-      → standardCall heads bodies n m o ≡ standardOf p o
+  pub standard-formed : shortTables tables o ≡ false → formedTables tables counts ≡ true
+      → standardCall tables counts o ≡ standardOf p o
   unfolding standardCall
   standard-formed e f = pick-false (standardRefusal 1 o) after-short e ∙ pick-true (standardOf p o) (standardRefusal 10 o) f
 
-  pub standard-over : shortTables heads bodies o ≡ false → formedTables heads bodies n m ≡ true → atoms < standard p .atoms
-      → standardCall heads bodies n m o ≡ standardRefusal 8 o
+  pub standard-over : shortTables tables o ≡ false → formedTables tables counts ≡ true → atoms < standard p .atoms
+      → standardCall tables counts o ≡ standardRefusal 8 o
   unfolding standardOf
   standard-over e f l =
       standard-formed e f ∙ pick-true (standardRefusal 8 o) (standardWell p o) (lt-ltb atoms (standard p .atoms) l)
 
-  pub standard-good : shortTables heads bodies o ≡ false → formedTables heads bodies n m ≡ true → standard p .atoms ≤ atoms
-      → standardCall heads bodies n m o ≡ standardWell p o
+  pub standard-good : shortTables tables o ≡ false → formedTables tables counts ≡ true → standard p .atoms ≤ atoms
+      → standardCall tables counts o ≡ standardWell p o
   unfolding standardOf
   standard-good e f l =
       standard-formed e f ∙ pick-false (standardRefusal 8 o) (standardWell p o) (le-ltb atoms (standard p .atoms) l)
@@ -204,11 +193,11 @@ module _ (heads bodies : List ℕ) (n m : ℕ) (o : RowAreas) where
   -- The claim, at each way out.
 
   -- a refusal with its number k: what it is claimed to be where one of the claims holds and the others do not
-  refused : (k : ℕ) → (k ≡ 0 → ⊥) → ((k ≡ 1) ↔ (StandardLong heads bodies o → ⊥))
-      → ((k ≡ 10) ↔ (StandardLong heads bodies o × (StandardFormed heads bodies n m → ⊥)))
-      → ((k ≡ 8) ↔ (StandardLong heads bodies o × StandardFormed heads bodies n m × (atoms < standard p .atoms)))
-      → (StandardLong heads bodies o → StandardFormed heads bodies n m → standard p .atoms ≤ atoms → ⊥)
-      → Standardises heads bodies n m o p (standardRefusal k o)
+  refused : (k : ℕ) → (k ≡ 0 → ⊥) → ((k ≡ 1) ↔ (StandardLong tables o → ⊥))
+      → ((k ≡ 10) ↔ (StandardLong tables o × (StandardFormed tables counts → ⊥)))
+      → ((k ≡ 8) ↔ (StandardLong tables o × StandardFormed tables counts × (atoms < standard p .atoms)))
+      → (StandardLong tables o → StandardFormed tables counts → standard p .atoms ≤ atoms → ⊥)
+      → Standardises tables counts o p (standardRefusal k o)
   refused k z short ill over none = record {
     accepts = fails z (λ q. none (q .0) (q .1) (q .2));
     short = short;
@@ -227,34 +216,34 @@ module _ (heads bodies : List ℕ) (n m : ℕ) (o : RowAreas) where
     regular = λ h. absurd (z h);
   }
 
-  claim-short : shortTables heads bodies o ≡ true → Standardises heads bodies n m o p (standardRefusal 1 o)
+  claim-short : shortTables tables o ≡ true → Standardises tables counts o p (standardRefusal 1 o)
   claim-short e =
-      let none : StandardLong heads bodies o → ⊥ = λ long. clash e (long-tables heads bodies o long) in
+      let none : StandardLong tables o → ⊥ = λ long. clash e (long-tables tables o long) in
       refused 1 (eqb-false 1 0 refl) (holds refl none) (fails (eqb-false 1 10 refl) (λ q. none (q .0)))
       (fails (eqb-false 1 8 refl) (λ q. none (q .0))) (λ long formed l. none long)
 
-  claim-ill : shortTables heads bodies o ≡ false → formedTables heads bodies n m ≡ false
-      → Standardises heads bodies n m o p (standardRefusal 10 o)
+  claim-ill : shortTables tables o ≡ false → formedTables tables counts ≡ false
+      → Standardises tables counts o p (standardRefusal 10 o)
   claim-ill e f =
-      let long : StandardLong heads bodies o = tables-long heads bodies o e in
-      let none : StandardFormed heads bodies n m → ⊥ = λ g. clash (tables-formed heads bodies n m g) f in
+      let long : StandardLong tables o = tables-long tables o e in
+      let none : StandardFormed tables counts → ⊥ = λ g. clash (tables-formed tables counts g) f in
       refused 10 (eqb-false 10 0 refl) (fails (eqb-false 10 1 refl) (λ h. h long)) (holds refl (long, none))
       (fails (eqb-false 10 8 refl) (λ q. none (q .1))) (λ long formed l. none formed)
 
-  claim-over : shortTables heads bodies o ≡ false → formedTables heads bodies n m ≡ true → atoms < standard p .atoms
-      → Standardises heads bodies n m o p (standardRefusal 8 o)
+  claim-over : shortTables tables o ≡ false → formedTables tables counts ≡ true → atoms < standard p .atoms
+      → Standardises tables counts o p (standardRefusal 8 o)
   claim-over e f l =
-      let long : StandardLong heads bodies o = tables-long heads bodies o e in
-      let formed : StandardFormed heads bodies n m = formed-tables heads bodies n m f in
+      let long : StandardLong tables o = tables-long tables o e in
+      let formed : StandardFormed tables counts = formed-tables tables counts f in
       refused 8 (eqb-false 8 0 refl) (fails (eqb-false 8 1 refl) (λ h. h long))
       (fails (eqb-false 8 10 refl) (λ q. q .1 formed)) (holds refl (long, formed, l)) (λ long formed b. omega arith)
 
-  claim-good : shortTables heads bodies o ≡ false → formedTables heads bodies n m ≡ true → standard p .atoms ≤ atoms
-      → Standardises heads bodies n m o p (standardWell p o)
+  claim-good : shortTables tables o ≡ false → formedTables tables counts ≡ true → standard p .atoms ≤ atoms
+      → Standardises tables counts o p (standardWell p o)
   claim-good e f l =
-      let long : StandardLong heads bodies o = tables-long heads bodies o e in
-      let formed : StandardFormed heads bodies n m = formed-tables heads bodies n m f in
-      let well : WellFormed p = formed-program heads bodies n m f in
+      let long : StandardLong tables o = tables-long tables o e in
+      let formed : StandardFormed tables counts = formed-tables tables counts f in
+      let well : WellFormed p = formed-program tables counts f in
       record {
         accepts = holds refl (long, formed, l);
         short = fails (eqb-false 0 1 refl) (λ h. h long);
@@ -273,11 +262,11 @@ module _ (heads bodies : List ℕ) (n m : ℕ) (o : RowAreas) where
         regular = λ h. regular-rows p well l o;
       }
 
-  pub standardises : Standardises heads bodies n m o p (standardCall heads bodies n m o)
+  pub standardises : Standardises tables counts o p (standardCall tables counts o)
   standardises =
-      let P : StandardOutcome → Type 0 = Standardises heads bodies n m o p in
-      either (shortTables heads bodies o) (λ e. subst P (sym (standard-short e)) (claim-short e))
-      (λ e. either (formedTables heads bodies n m)
+      let P : StandardOutcome → Type 0 = Standardises tables counts o p in
+      either (shortTables tables o) (λ e. subst P (sym (standard-short e)) (claim-short e))
+      (λ e. either (formedTables tables counts)
       (λ f. either (ltb atoms (standard p .atoms))
       (λ t. let l : atoms < standard p .atoms = ltb-true atoms (standard p .atoms) t in subst P (sym (standard-over e f l)) (claim-over e f l))
       (λ t. let l : standard p .atoms ≤ atoms = ltb-false atoms (standard p .atoms) t in subst P (sym (standard-good e f l)) (claim-good e f l)))

@@ -14,11 +14,11 @@ use Rattle.sets.specs.Steps.{First, Least}
 use Rattle.program.specs.Program.{Program, WellFormed, InEveryModel, size}
 use Rattle.program.specs.System.{System, Regular, round, unfolded, folded, roundsOf, heldBy}
 use Rattle.program.specs.Standard.{ways, hasBody, countedAtoms, allRow, anyRow, startSet, standard}
-use Rattle.tables.specs.Areas.{programIn}
-use Rattle.systems.specs.Rows.{rowIn}
+use Rattle.tables.specs.Areas.{RuleTables, Counts, programIn}
+use Rattle.systems.specs.Rows.{RowAreas, rowIn}
 use Rattle.systems.specs.Fold.{FoldOutcome, foldCall}
 use Rattle.systems.specs.Rounds.{RoundsOutcome, modelIn, systemIn, roundsCall}
-use Rattle.systems.specs.Standardise.{RowAreas, StandardOutcome, standardCall}
+use Rattle.systems.specs.Standardise.{StandardOutcome, standardCall}
 use Rattle.systems.specs.Sizes.{StatedSizes}
 
 -- neither a bit nor a row at or past the count m
@@ -45,23 +45,23 @@ pub record Folds (all spare : List ℕ) (m k : ℕ) (r : FoldOutcome) : Type 0 w
   pub zero-spare : r .number ≡ 0 → r .spare ≡ replicate rowArea 0 ++ drop rowArea spare
 
 -- The rounds call's areas, and its rows and start set.
-abbrev pub RoundsLong : List ℕ → List ℕ → List ℕ → Type 0
-RoundsLong all any model = (rowArea ≤ length all) × (rowArea ≤ length any) × (rowWords ≤ length model)
+abbrev pub RoundsLong : RowAreas → Type 0
+RoundsLong o = (rowArea ≤ length (o .all)) × (rowArea ≤ length (o .any)) × (rowWords ≤ length (o .model))
 
-abbrev pub RoundsFormed : List ℕ → List ℕ → List ℕ → ℕ → Type 0
-RoundsFormed all any model m = (m ≤ atoms) × InCount m all × InCount m any × ((k : ℕ) → modelIn model k ≡ true → k < m)
+abbrev pub RoundsFormed : RowAreas → ℕ → Type 0
+RoundsFormed o m = (m ≤ atoms) × InCount m (o .all) × InCount m (o .any) × ((k : ℕ) → modelIn (o .model) k ≡ true → k < m)
 
 -- a start atom is lost in round one
 abbrev pub Lost : System → Type 0
 Lost s = (i : ℕ) × (i < s .atoms) × (s .start i ≡ true) × (round s (s .start) i ≡ false)
 
 -- demand 1 and the counted rounds for any rows: r is what the call returns and leaves, s the system that the rows give
-pub record Runs (all any model : List ℕ) (m : ℕ) (s : System) (r : RoundsOutcome) : Type 0 where
-  pub accepts : (r .number ≡ 0) ↔ (RoundsLong all any model × RoundsFormed all any model m × Within m (s .start) (round s (s .start)))
-  pub short : (r .number ≡ 1) ↔ (RoundsLong all any model → ⊥)
-  pub ill : (r .number ≡ 10) ↔ (RoundsLong all any model × (RoundsFormed all any model m → ⊥))
-  pub lost : (r .number ≡ 11) ↔ (RoundsLong all any model × RoundsFormed all any model m × Lost s)
-  pub kept : (r .number ≡ 0 → ⊥) → (r .rounds ≡ 0) × (r .model ≡ model)
+pub record Runs (o : RowAreas) (m : ℕ) (s : System) (r : RoundsOutcome) : Type 0 where
+  pub accepts : (r .number ≡ 0) ↔ (RoundsLong o × RoundsFormed o m × Within m (s .start) (round s (s .start)))
+  pub short : (r .number ≡ 1) ↔ (RoundsLong o → ⊥)
+  pub ill : (r .number ≡ 10) ↔ (RoundsLong o × (RoundsFormed o m → ⊥))
+  pub lost : (r .number ≡ 11) ↔ (RoundsLong o × RoundsFormed o m × Lost s)
+  pub kept : (r .number ≡ 0 → ⊥) → (r .rounds ≡ 0) × (r .model ≡ o .model)
   -- the rounds are the first that changes nothing, and that one is counted
   pub first : r .number ≡ 0 → (q : ℕ) × (r .rounds ≡ suc q) × First m (round s) (s .start) q
   pub bound : r .number ≡ 0 → r .rounds ≤ m + 1
@@ -70,17 +70,19 @@ pub record Runs (all any model : List ℕ) (m : ℕ) (s : System) (r : RoundsOut
   pub past : r .number ≡ 0 → (k : ℕ) → m ≤ k → modelIn (r .model) k ≡ false
 
 -- The standardise call's areas, and its tables.
-abbrev pub StandardLong : List ℕ → List ℕ → RowAreas → Type 0
-StandardLong heads bodies o =
-    (rules ≤ length heads) × (bodyArea ≤ length bodies) × (rowArea ≤ length (o .all)) × (rowArea ≤ length (o .any)) × (rowWords ≤ length (o .model))
+abbrev pub TablesLong : RuleTables → Type 0
+TablesLong tables = (rules ≤ length (tables .heads)) × (bodyArea ≤ length (tables .bodies))
 
-pub record StandardFormed (heads bodies : List ℕ) (n m : ℕ) : Type 0 where
-  pub names-limit : n ≤ names
-  pub rules-limit : m ≤ rules
-  pub head : (j : ℕ) → j < m → getD heads j 0 < n
-  pub body : (j a : ℕ) → j < m → rowIn bodyWords bodies j a ≡ true → a < n
-  pub head-unused : (j : ℕ) → m ≤ j → j < rules → getD heads j 0 ≡ 0
-  pub body-unused : (j a : ℕ) → m ≤ j → j < rules → rowIn bodyWords bodies j a ≡ false
+abbrev pub StandardLong : RuleTables → RowAreas → Type 0
+StandardLong tables o = TablesLong tables × RoundsLong o
+
+pub record StandardFormed (tables : RuleTables) (counts : Counts) : Type 0 where
+  pub names-limit : counts .names ≤ names
+  pub rules-limit : counts .rules ≤ rules
+  pub head : (j : ℕ) → j < counts .rules → getD (tables .heads) j 0 < counts .names
+  pub body : (j a : ℕ) → j < counts .rules → rowIn bodyWords (tables .bodies) j a ≡ true → a < counts .names
+  pub head-unused : (j : ℕ) → counts .rules ≤ j → j < rules → getD (tables .heads) j 0 ≡ 0
+  pub body-unused : (j a : ℕ) → counts .rules ≤ j → j < rules → rowIn bodyWords (tables .bodies) j a ≡ false
 
 -- the system in the areas, with the atoms that c counts by the rules
 abbrev pub standardIn : Program → StandardOutcome → System
@@ -94,17 +96,17 @@ standardIn p r =
     }
 
 -- demands 1 and 2 for standardising: r is what the call returns and leaves, p the program that the tables give
-pub record Standardises (heads bodies : List ℕ) (n m : ℕ) (o : RowAreas) (p : Program) (r : StandardOutcome) : Type 0 where
-  pub accepts : (r .number ≡ 0) ↔ (StandardLong heads bodies o × StandardFormed heads bodies n m × (standard p .atoms ≤ atoms))
-  pub short : (r .number ≡ 1) ↔ (StandardLong heads bodies o → ⊥)
-  pub ill : (r .number ≡ 10) ↔ (StandardLong heads bodies o × (StandardFormed heads bodies n m → ⊥))
-  pub over : (r .number ≡ 8) ↔ (StandardLong heads bodies o × StandardFormed heads bodies n m × (atoms < standard p .atoms))
+pub record Standardises (tables : RuleTables) (counts : Counts) (o : RowAreas) (p : Program) (r : StandardOutcome) : Type 0 where
+  pub accepts : (r .number ≡ 0) ↔ (StandardLong tables o × StandardFormed tables counts × (standard p .atoms ≤ atoms))
+  pub short : (r .number ≡ 1) ↔ (StandardLong tables o → ⊥)
+  pub ill : (r .number ≡ 10) ↔ (StandardLong tables o × (StandardFormed tables counts → ⊥))
+  pub over : (r .number ≡ 8) ↔ (StandardLong tables o × StandardFormed tables counts × (atoms < standard p .atoms))
   pub kept : (r .number ≡ 0 → ⊥) → (r .atoms ≡ 0) × (r .c ≡ 0) × (r .h ≡ 0) × (r .areas ≡ o)
   pub program : r .number ≡ 0 → WellFormed p
   -- the counts, by the rules
   pub count-atoms : r .number ≡ 0 → r .atoms ≡ standard p .atoms
   pub count-c : r .number ≡ 0 → r .c ≡ count (size p) (hasBody p)
-  pub count-h : r .number ≡ 0 → r .h ≡ count n (λ a. leb 2 (ways p a))
+  pub count-h : r .number ≡ 0 → r .h ≡ count (counts .names) (λ a. leb 2 (ways p a))
   -- each row is the definition's, and a row past the atoms is empty
   pub all-row : r .number ≡ 0 → (i : ℕ) → i < r .atoms → (a : ℕ) → rowIn rowWords (r .areas .all) i a ≡ allRow p i a
   pub any-row : r .number ≡ 0 → (i : ℕ) → i < r .atoms → (a : ℕ) → rowIn rowWords (r .areas .any) i a ≡ anyRow p i a
@@ -119,7 +121,8 @@ abbrev pub foldAfter : StandardOutcome → List ℕ → ℕ → FoldOutcome
 foldAfter r spare k = foldCall (r .areas .all) spare (r .atoms) k
 
 abbrev pub roundsAfter : StandardOutcome → List ℕ → ℕ → RoundsOutcome
-roundsAfter r spare k = roundsCall (foldAfter r spare k .all) (r .areas .any) (r .areas .model) (r .atoms)
+roundsAfter r spare k =
+    roundsCall (record { all = foldAfter r spare k .all; any = r .areas .any; model = r .areas .model }) (r .atoms)
 
 -- The three calls one after another, for the solver: after a successful standardising neither 10 nor 11 can occur, and the rounds and the
 -- last set are those of the definitions, so a name is held exactly where every model of the program has it.
@@ -134,11 +137,11 @@ pub record Stages (p : Program) (r : StandardOutcome) (spare : List ℕ) (k : �
 
 -- what is proved of the calls, for all areas and numbers
 pub record Calls : Type 0 where
-  pub standardises : (heads bodies : List ℕ) (n m : ℕ) (o : RowAreas)
-      → Standardises heads bodies n m o (programIn heads bodies n m) (standardCall heads bodies n m o)
+  pub standardises : (tables : RuleTables) (counts : Counts) (o : RowAreas)
+      → Standardises tables counts o (programIn tables counts) (standardCall tables counts o)
   pub folds-rows : (all spare : List ℕ) (m k : ℕ) → Folds all spare m k (foldCall all spare m k)
-  pub runs : (all any model : List ℕ) (m : ℕ) → Runs all any model m (systemIn all any model m) (roundsCall all any model m)
-  pub stages : (heads bodies : List ℕ) (n m : ℕ) (o : RowAreas) (spare : List ℕ) (k : ℕ)
-      → standardCall heads bodies n m o .number ≡ 0 → rowArea ≤ length spare → k ≤ folds
-      → Stages (programIn heads bodies n m) (standardCall heads bodies n m o) spare k
+  pub runs : (o : RowAreas) (m : ℕ) → Runs o m (systemIn o m) (roundsCall o m)
+  pub stages : (tables : RuleTables) (counts : Counts) (o : RowAreas) (spare : List ℕ) (k : ℕ)
+      → standardCall tables counts o .number ≡ 0 → rowArea ≤ length spare → k ≤ folds
+      → Stages (programIn tables counts) (standardCall tables counts o) spare k
   pub stated-sizes : StatedSizes

@@ -10,7 +10,7 @@ use Rattle.sets.specs.Set.{Set, pick, within, emptySet}
 use Rattle.words.specs.Row.{row, part, pack}
 use Rattle.program.specs.System.{System, round, roundsOf, heldBy}
 use Rattle.tables.specs.Begun.{begun}
-use Rattle.systems.specs.Rows.{rowIn, below, formedRows}
+use Rattle.systems.specs.Rows.{RowAreas, rowIn, below, formedRows}
 
 -- the set in a model area
 abbrev pub modelIn : List ℕ → Set
@@ -21,9 +21,9 @@ unfoldable pub withModel : Set → List ℕ → List ℕ
 withModel f model = begun (pack rowWords f) model
 
 -- The system that rows, a start set and an atom count give. Which atoms c counts cannot be read off the rows.
-abbrev pub systemIn : List ℕ → List ℕ → List ℕ → ℕ → System
-systemIn all any model m =
-    record { atoms = m; all = rowIn rowWords all; any = rowIn rowWords any; start = modelIn model; counted = emptySet }
+abbrev pub systemIn : RowAreas → ℕ → System
+systemIn o m =
+    record { atoms = m; all = rowIn rowWords (o .all); any = rowIn rowWords (o .any); start = modelIn (o .model); counted = emptySet }
 
 -- what the call returns and leaves
 pub record RoundsOutcome : Type 0 where
@@ -32,15 +32,15 @@ pub record RoundsOutcome : Type 0 where
   pub model : List ℕ
 
 -- an area shorter than its stated size
-unfoldable pub shortSystem : List ℕ → List ℕ → List ℕ → Bool
-shortSystem all any model = ltb (length all) rowArea || (ltb (length any) rowArea || ltb (length model) rowWords)
+unfoldable pub shortSystem : RowAreas → Bool
+shortSystem o = ltb (length (o .all)) rowArea || (ltb (length (o .any)) rowArea || ltb (length (o .model)) rowWords)
 
 -- the count is within its limit, and neither a bit, of the start set too, nor a row lies at or past it
-unfoldable pub formedSystem : List ℕ → List ℕ → List ℕ → ℕ → Bool
-formedSystem all any model m =
+unfoldable pub formedSystem : RowAreas → ℕ → Bool
+formedSystem o m =
     leb m atoms
-    && (formedRows rowWords atoms m all
-    && (formedRows rowWords atoms m any && within (rowWords * wordBits) (modelIn model) (λ k. ltb k m)))
+    && (formedRows rowWords atoms m (o .all)
+    && (formedRows rowWords atoms m (o .any) && within (rowWords * wordBits) (modelIn (o .model)) (λ k. ltb k m)))
 
 -- no start atom is lost in round one
 unfoldable pub startKept : System → Bool
@@ -55,9 +55,9 @@ unfoldable pub runOf : System → List ℕ → RoundsOutcome
 runOf s model = record { number = 0; rounds = roundsOf s; model = withModel (below (s .atoms) (heldBy s)) model }
 
 -- areas too short, rows ill formed, a start atom lost; else the rounds
-unfoldable pub roundsCall : List ℕ → List ℕ → List ℕ → ℕ → RoundsOutcome
-roundsCall all any model m =
-    pick (shortSystem all any model) (roundsRefusal 1 model)
-    (pick (formedSystem all any model m)
-    (pick (startKept (systemIn all any model m)) (runOf (systemIn all any model m) model) (roundsRefusal 11 model))
-    (roundsRefusal 10 model))
+unfoldable pub roundsCall : RowAreas → ℕ → RoundsOutcome
+roundsCall o m =
+    pick (shortSystem o) (roundsRefusal 1 (o .model))
+    (pick (formedSystem o m)
+    (pick (startKept (systemIn o m)) (runOf (systemIn o m) (o .model)) (roundsRefusal 11 (o .model)))
+    (roundsRefusal 10 (o .model)))

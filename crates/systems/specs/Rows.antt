@@ -8,6 +8,12 @@ use Rattle.limits.specs.Book.{wordBits}
 use Rattle.sets.specs.Set.{Set, every, within}
 use Rattle.words.specs.Row.{row, part, pack}
 
+-- the areas of a system: its "all" rows, its "any" rows and its start or last set
+pub record RowAreas : Type 0 where
+  pub all : List ℕ
+  pub any : List ℕ
+  pub model : List ℕ
+
 -- row i of an area
 abbrev pub rowIn : ℕ → List ℕ → ℕ → Set
 rowIn w area i = row (part (i * w) w area)

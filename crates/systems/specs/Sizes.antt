@@ -5,9 +5,11 @@ use mathlib.Core.List.{List, _++_}
 use Prim.Native.Nat.{ℕ}
 use lib.ListN.{take, drop}
 use Rattle.limits.specs.Book.{rules, rowWords, bodyArea, rowArea}
+use Rattle.tables.specs.Areas.{RuleTables, Counts}
+use Rattle.systems.specs.Rows.{RowAreas}
 use Rattle.systems.specs.Fold.{FoldOutcome, foldCall}
 use Rattle.systems.specs.Rounds.{RoundsOutcome, roundsCall}
-use Rattle.systems.specs.Standardise.{RowAreas, StandardOutcome, standardCall}
+use Rattle.systems.specs.Standardise.{StandardOutcome, standardCall}
 
 -- what the fold call returns and leaves of areas cut to their stated sizes, with what was cut off put after
 abbrev pub foldWithRest : List ℕ → List ℕ → FoldOutcome → FoldOutcome
@@ -17,6 +19,10 @@ foldWithRest all spare r =
 -- the same for the rounds call
 abbrev pub roundsWithRest : List ℕ → RoundsOutcome → RoundsOutcome
 roundsWithRest model r = record { number = r .number; rounds = r .rounds; model = r .model ++ drop rowWords model }
+
+-- tables, cut to their stated sizes
+abbrev pub statedTables : RuleTables → RuleTables
+statedTables tables = record { heads = take rules (tables .heads); bodies = take bodyArea (tables .bodies) }
 
 -- areas of rows, cut to their stated sizes
 abbrev pub statedRows : RowAreas → RowAreas
@@ -39,8 +45,6 @@ standardWithRest o r = record { number = r .number; atoms = r .atoms; c = r .c; 
 pub record StatedSizes : Type 0 where
   pub fold : (all spare : List ℕ) (m k : ℕ)
       → foldCall all spare m k ≡ foldWithRest all spare (foldCall (take rowArea all) (take rowArea spare) m k)
-  pub rounds : (all any model : List ℕ) (m : ℕ)
-      → roundsCall all any model m ≡ roundsWithRest model (roundsCall (take rowArea all) (take rowArea any) (take rowWords model) m)
-  pub standardise : (heads bodies : List ℕ) (n m : ℕ) (o : RowAreas)
-      → standardCall heads bodies n m o
-      ≡ standardWithRest o (standardCall (take rules heads) (take bodyArea bodies) n m (statedRows o))
+  pub rounds : (o : RowAreas) (m : ℕ) → roundsCall o m ≡ roundsWithRest (o .model) (roundsCall (statedRows o) m)
+  pub standardise : (tables : RuleTables) (counts : Counts) (o : RowAreas)
+      → standardCall tables counts o ≡ standardWithRest o (standardCall (statedTables tables) counts (statedRows o))

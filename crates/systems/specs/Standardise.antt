@@ -2,7 +2,6 @@
 -- Document 01: "Standardising leaves the start set in the model area."
 -- Assumes nothing.
 use mathlib.Core.Bool.{Bool, not, _&&_, _||_}
-use mathlib.Core.List.{List}
 use Prim.Native.Nat.{ℕ, _*_}
 use lib.Dec.{eqb, leb, ltb}
 use lib.ListN.{length, getD}
@@ -11,15 +10,9 @@ use Rattle.sets.specs.Set.{pick, every, exists, within}
 use Rattle.program.specs.Program.{Program}
 use Rattle.program.specs.System as System
 use Rattle.program.specs.Standard.{allRow, anyRow, startSet, standard}
-use Rattle.tables.specs.Areas.{filled, programIn}
-use Rattle.systems.specs.Rows.{rowIn, packed}
-use Rattle.systems.specs.Rounds.{withModel}
-
--- the areas of rows that the call is lent
-pub record RowAreas : Type 0 where
-  pub all : List ℕ
-  pub any : List ℕ
-  pub model : List ℕ
+use Rattle.tables.specs.Areas.{RuleTables, Counts, filled, programIn}
+use Rattle.systems.specs.Rows.{RowAreas, rowIn, packed}
+use Rattle.systems.specs.Rounds.{withModel, shortSystem}
 
 -- what the call returns and leaves
 pub record StandardOutcome : Type 0 where
@@ -29,23 +22,26 @@ pub record StandardOutcome : Type 0 where
   pub h : ℕ
   pub areas : RowAreas
 
--- an area shorter than its stated size
-unfoldable pub shortTables : List ℕ → List ℕ → RowAreas → Bool
-shortTables heads bodies o =
-    ltb (length heads) rules
-    || (ltb (length bodies) bodyArea
-    || (ltb (length (o .all)) rowArea || (ltb (length (o .any)) rowArea || ltb (length (o .model)) rowWords)))
+-- heads or bodies shorter than their stated size
+unfoldable pub shortRules : RuleTables → Bool
+shortRules tables = ltb (length (tables .heads)) rules || ltb (length (tables .bodies)) bodyArea
 
--- rule entry j: its head and its body's bits are below n; at or past the rule count it is zero
-unfoldable pub formedEntry : List ℕ → List ℕ → ℕ → ℕ → ℕ → Bool
-formedEntry heads bodies n m j =
-    pick (ltb j m)
-    (ltb (getD heads j 0) n && within (bodyWords * wordBits) (rowIn bodyWords bodies j) (λ a. ltb a n))
-    (eqb (getD heads j 0) 0 && not (exists (bodyWords * wordBits) (rowIn bodyWords bodies j)))
+-- an area shorter than its stated size
+unfoldable pub shortTables : RuleTables → RowAreas → Bool
+shortTables tables o = shortRules tables || shortSystem o
+
+-- rule entry j: its head and its body's bits are below the name count; at or past the rule count it is zero
+unfoldable pub formedEntry : RuleTables → Counts → ℕ → Bool
+formedEntry tables counts j =
+    pick (ltb j (counts .rules))
+    (ltb (getD (tables .heads) j 0) (counts .names)
+    && within (bodyWords * wordBits) (rowIn bodyWords (tables .bodies) j) (λ a. ltb a (counts .names)))
+    (eqb (getD (tables .heads) j 0) 0 && not (exists (bodyWords * wordBits) (rowIn bodyWords (tables .bodies) j)))
 
 -- the counts are within their limits, and every entry is in order
-unfoldable pub formedTables : List ℕ → List ℕ → ℕ → ℕ → Bool
-formedTables heads bodies n m = (leb n names && leb m rules) && every rules (formedEntry heads bodies n m)
+unfoldable pub formedTables : RuleTables → Counts → Bool
+formedTables tables counts =
+    (leb (counts .names) names && leb (counts .rules) rules) && every rules (formedEntry tables counts)
 
 -- a refusal leaves all as it was
 abbrev pub standardRefusal : ℕ → RowAreas → StandardOutcome
@@ -73,7 +69,7 @@ standardOf p o =
     })
 
 -- areas too short, tables ill formed, over 256 atoms; else the rows
-unfoldable pub standardCall : List ℕ → List ℕ → ℕ → ℕ → RowAreas → StandardOutcome
-standardCall heads bodies n m o =
-    pick (shortTables heads bodies o) (standardRefusal 1 o)
-    (pick (formedTables heads bodies n m) (standardOf (programIn heads bodies n m) o) (standardRefusal 10 o))
+unfoldable pub standardCall : RuleTables → Counts → RowAreas → StandardOutcome
+standardCall tables counts o =
+    pick (shortTables tables o) (standardRefusal 1 o)
+    (pick (formedTables tables counts) (standardOf (programIn tables counts) o) (standardRefusal 10 o))

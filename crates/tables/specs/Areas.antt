@@ -21,6 +21,24 @@ pub record Areas : Type 0 where
   pub heads : List ℕ
   pub bodies : List ℕ
 
+-- the heads and the bodies of the rules, as the calls on rules take them
+pub record RuleTables : Type 0 where
+  pub heads : List ℕ
+  pub bodies : List ℕ
+
+-- how many names and rules are in use
+pub record Counts : Type 0 where
+  pub names : ℕ
+  pub rules : ℕ
+
+-- those of a book
+abbrev pub countsOf : List Clause → Counts
+countsOf cs = record { names = length (namesOf cs); rules = length cs }
+
+-- the rules' part of the areas
+abbrev pub rulesOf : Areas → RuleTables
+rulesOf o = record { heads = o .heads; bodies = o .bodies }
+
 -- the used part, zeros to the stated size, and what lies past that as it was
 unfoldable pub filled : ℕ → List ℕ → List ℕ → List ℕ
 filled size xs old = xs ++ (replicate (size - length xs) 0 ++ drop size old)
@@ -128,6 +146,7 @@ rulesIn o m = rulesFrom o m 0
 abbrev pub rulesOnly : List ℕ → List ℕ → Areas
 rulesOnly heads bodies = record { spellings = []; heads = heads; bodies = bodies }
 
--- the program that n names and the first m rules of the tables give
-abbrev pub programIn : List ℕ → List ℕ → ℕ → ℕ → Program
-programIn heads bodies n m = record { names = n; rules = rulesIn (rulesOnly heads bodies) m }
+-- the program that the counted names and rules of the tables give
+abbrev pub programIn : RuleTables → Counts → Program
+programIn tables counts =
+    record { names = counts .names; rules = rulesIn (rulesOnly (tables .heads) (tables .bodies)) (counts .rules) }

@@ -16,23 +16,32 @@ use Rattle.program.specs.Program.{Program, headAt}
 use Rattle.program.specs.System as System
 use Rattle.program.specs.Standard as Standard
 use Rattle.program.proofs.Theorems.{kinds}
-use Rattle.tables.specs.Areas.{programIn}
+use Rattle.tables.specs.Areas.{RuleTables, Counts, programIn}
 use Rattle.systems.specs.Standardise.{formedTables}
 use Rattle.systems.proofs.Bridge.{size-in, head-in, formed-limits, formed-entry, formed-program}
 use Rattle.ways.specs.Ways.{severalNames}
 use Rattle.ways.proofs.Names.{row-whole}
 
-module _ (heads bodies : List ℕ) (n m : ℕ) where
+module _ (tables : RuleTables) (counts : Counts) where
+  abbrev heads : List ℕ
+  heads = tables .heads
+
+  abbrev n : ℕ
+  n = counts .names
+
+  abbrev m : ℕ
+  m = counts .rules
+
   abbrev p : Program
-  p = programIn heads bodies n m
+  p = programIn tables counts
 
   -- the rules of a name, read off the heads
   ways-are : (a : ℕ) → count m (λ j. eqb (getD heads j 0) a) ≡ Standard.ways p a
   unfolding Standard.ways
   ways-are a =
       count-same m (λ j. eqb (getD heads j 0) a) (λ j. eqb (headAt p j) a)
-      (λ j l. ap (λ (x : ℕ). eqb x a) (sym (head-in heads bodies n m j l)))
-      ∙ ap (λ (k : ℕ). count k (λ j. eqb (headAt p j) a)) (sym (size-in heads bodies n m))
+      (λ j l. ap (λ (x : ℕ). eqb x a) (sym (head-in tables counts j l)))
+      ∙ ap (λ (k : ℕ). count k (λ j. eqb (headAt p j) a)) (sym (size-in tables counts))
 
   -- the names with several rules are the program's
   pub several-is : (a : ℕ) → severalNames heads m a ≡ leb 2 (Standard.ways p a)
@@ -42,7 +51,7 @@ module _ (heads bodies : List ℕ) (n m : ℕ) where
   -- a rule's head
   pub several-rule : (j : ℕ) → j < m → severalNames heads m (getD heads j 0) ≡ Standard.several p j
   unfolding Standard.several
-  several-rule j l = ap (severalNames heads m) (sym (head-in heads bodies n m j l)) ∙ several-is (headAt p j)
+  several-rule j l = ap (severalNames heads m) (sym (head-in tables counts j l)) ∙ several-is (headAt p j)
 
   -- the further atom of rule j
   pub helpers-are : (j : ℕ) → j ≤ m → n + count j (λ l. severalNames heads m (getD heads l 0)) ≡ Standard.helper p j
@@ -51,12 +60,12 @@ module _ (heads bodies : List ℕ) (n m : ℕ) where
       ap (λ (k : ℕ). n + k)
       (count-same j (λ i. severalNames heads m (getD heads i 0)) (Standard.several p) (λ i b. several-rule i (omega arith)))
 
-  module _ (formed : formedTables heads bodies n m ≡ true) where
+  module _ (formed : formedTables tables counts ≡ true) where
     -- heads are names, as the row of them asks
     pub heads-below : (j : ℕ) → j < m → getD heads j 0 < names
     heads-below j l =
-        let a : getD heads j 0 < n = formed-entry heads bodies n m formed j l .0 in
-        let b : n ≤ names = formed-limits heads bodies n m formed .0 in
+        let a : getD heads j 0 < n = formed-entry tables counts formed j l .0 in
+        let b : n ≤ names = formed-limits tables counts formed .0 in
         omega arith
 
     -- a number past the names has no rule
@@ -66,7 +75,7 @@ module _ (heads bodies : List ℕ) (n m : ℕ) where
         let none : count m (λ j. eqb (getD heads j 0) a) ≡ 0 =
         count-none m (λ j. eqb (getD heads j 0) a)
         (λ j b.
-        let h : getD heads j 0 < n = formed-entry heads bodies n m formed j b .0 in
+        let h : getD heads j 0 < n = formed-entry tables counts formed j b .0 in
         ne-eqb (getD heads j 0) a (λ (e : getD heads j 0 ≡ a). omega arith))
         in
         lt-leb 2 (count m (λ j. eqb (getD heads j 0) a)) (omega arith)
@@ -74,9 +83,9 @@ module _ (heads bodies : List ℕ) (n m : ℕ) where
     -- so those counted below the limit of names are the program's h
     pub h-is : count names (severalNames heads m) ≡ System.h (Standard.standard p)
     h-is =
-        count-tail n names (severalNames heads m) (formed-limits heads bodies n m formed .0) (λ a l b. several-past a l)
+        count-tail n names (severalNames heads m) (formed-limits tables counts formed .0) (λ a l b. several-past a l)
         ∙ count-same n (severalNames heads m) (λ a. leb 2 (Standard.ways p a)) (λ a l. several-is a)
-        ∙ sym (kinds p (formed-program heads bodies n m formed) .h-names)
+        ∙ sym (kinds p (formed-program tables counts formed) .h-names)
 
     -- The same, read from a row that holds those names.
     module _ (several : List ℕ) (e : several ≡ pack bodyWords (severalNames heads m)) where
@@ -94,7 +103,7 @@ module _ (heads bodies : List ℕ) (n m : ℕ) where
           ∙ helpers-are j l
 
       pub row-atoms : n + count m (λ l. row (part 0 bodyWords several) (getD heads l 0)) ≡ Standard.standard p .atoms
-      row-atoms = row-helpers m (omega arith) ∙ ap (Standard.helper p) (sym (size-in heads bodies n m))
+      row-atoms = row-helpers m (omega arith) ∙ ap (Standard.helper p) (sym (size-in tables counts))
 
       pub row-h : count (bodyWords * wordBits) (row (part 0 bodyWords several)) ≡ System.h (Standard.standard p)
       row-h = count-same names (row (part 0 bodyWords several)) (severalNames heads m) (λ a l. row-name a l) ∙ h-is

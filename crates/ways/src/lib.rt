@@ -12,7 +12,8 @@ ghost use Rattle.ways.specs.Ways.{joined, severalNames};
 // Whether rule entry j is in order: its head and its body's bits are below n; at or past the rule count it is zero.
 fn entry(heads: &[u16], bodies: &[u64], n: usize, m: usize, j: usize) -> bool
     requires { ⌜ (n ≤ names) × (j < rules) × (rules ≤ length (now heads)) × (bodyArea ≤ length (now bodies)) ⌝ }
-    ensures { λ r. ⌜ r ≡ formedEntry (now (heads .entry)) (now (bodies .entry)) n m j ⌝ }
+    ensures { λ r. ⌜ r
+        ≡ formedEntry (record { heads = now (heads .entry); bodies = now (bodies .entry) }) (record { names = n; rules = m }) j ⌝ }
 {
     let head = heads[j] as usize;
     let at = Book::body_at(j);
@@ -25,7 +26,8 @@ fn entry(heads: &[u16], bodies: &[u64], n: usize, m: usize, j: usize) -> bool
 // Whether the tables are in order: the counts within their limits, and every entry.
 pub fn formed(heads: &[u16], bodies: &[u64], n: usize, m: usize) -> bool
     requires { ⌜ (rules ≤ length (now heads)) × (bodyArea ≤ length (now bodies)) ⌝ }
-    ensures { λ r. ⌜ r ≡ formedTables (now (heads .entry)) (now (bodies .entry)) n m ⌝ }
+    ensures { λ r. ⌜ r
+        ≡ formedTables (record { heads = now (heads .entry); bodies = now (bodies .entry) }) (record { names = n; rules = m }) ⌝ }
 {
     if Book::NAMES < n {
         return false;
@@ -46,8 +48,10 @@ pub fn formed(heads: &[u16], bodies: &[u64], n: usize, m: usize) -> bool
 // Notes name a: it joins the row `twice` where it is in the row `once`, else that row.
 fn note(once: &mut [u64], twice: &mut [u64], a: usize)
     requires { ⌜ (bodyWords ≤ length (now once)) × (bodyWords ≤ length (now twice)) × (a < names) ⌝ }
-    ensures once { λ r. ⌜ now (once .exit) ≡ pick (row (part 0 bodyWords (now (once .entry))) a) (now (once .entry)) (joined a (now (once .entry))) ⌝ }
-    ensures twice { λ r. ⌜ now (twice .exit) ≡ pick (row (part 0 bodyWords (now (once .entry))) a) (joined a (now (twice .entry))) (now (twice .entry)) ⌝ }
+    ensures once { λ r. ⌜ now (once .exit)
+        ≡ pick (row (part 0 bodyWords (now (once .entry))) a) (now (once .entry)) (joined a (now (once .entry))) ⌝ }
+    ensures twice { λ r. ⌜ now (twice .exit)
+        ≡ pick (row (part 0 bodyWords (now (once .entry))) a) (joined a (now (twice .entry))) (now (twice .entry)) ⌝ }
 {
     if rows::read::member(once, 0, Book::BODY_WORDS, a) {
         rows::write::insert(twice, 0, Book::BODY_WORDS, a);
@@ -73,7 +77,8 @@ pub fn several(heads: &[u16], m: usize) -> [u64; Book::BODY_WORDS]
 
 // How many of the first m rules have a head in that row.
 pub fn helpers(heads: &[u16], m: usize, several: &[u64]) -> usize
-    requires { ⌜ (m ≤ rules) × (rules ≤ length (now heads)) × (bodyWords ≤ length (now several)) × ((j : ℕ) → j < m → getD (now heads) j 0 < names) ⌝ }
+    requires { ⌜ (m ≤ rules) × (rules ≤ length (now heads)) × (bodyWords ≤ length (now several))
+        × ((j : ℕ) → j < m → getD (now heads) j 0 < names) ⌝ }
     ensures { λ r. ⌜ r ≡ count m (λ j. row (part 0 bodyWords (now (several .entry))) (getD (now (heads .entry)) j 0)) ⌝ }
 {
     let mut found = 0;

@@ -3,14 +3,14 @@ use native.Mathlib.Omega.{arith}
 use mathlib.Core.Logic.{⊎-elim}
 use Prim.Native.Nat.{_-_}
 use Rattle.tables.specs.Areas.{programIn}
-use Rattle.placing.proofs.Filling.{Placed, few-names, few-rules, marks-long, placed-start, c-small, head-small, helper-small, with-helper, without-helper, home-small, placed-body, placed-fact, placed-c, placed-all, placed-any, placed-model}
+use Rattle.placing.proofs.Filling.{Placed, few-names, few-rules, marks-long, placed-start, c-small, head-small, helper-small, with-helper, without-helper, home-small, placed-body, placed-fact, placed-all}
 use borrow.Author.Needs.{needs}
 use Rattle.placing.proofs.fill.Statement.{statement}
 use Rattle.placing.proofs.fill.Tie as tie
 
 abbrev Inv-loop : tie.InvT-loop
 Inv-loop heads bodies several n m all₀ any₀ model₀ helper₀ c₀ j₀ all any model helper c j =
-    Placed (programIn heads bodies n m) j helper c all₀ any₀ model₀ all any model
+    Placed (programIn (record { heads = heads; bodies = bodies }) (record { names = n; rules = m })) j helper c all₀ any₀ model₀ all any model
 
 abbrev μ-loop : tie.MeasureT-loop
 μ-loop heads bodies several n m all₀ any₀ model₀ helper₀ c₀ j₀ all any model helper c j = m - j
@@ -97,10 +97,7 @@ loop-again c =
 
 returns : tie.Need-returns Inv-loop μ-loop
 returns c =
-    let i = c .before .loop .inv in
-    let ready = c .before .before .before .before .before .before .before .before .pre in
-    let t = c .loop-test .left in
-    (placed-c ready i t, (placed-all ready i t, (placed-any ready i t, placed-model ready i t)))
+    placed-all (c .before .before .before .before .before .before .before .before .pre) (c .before .loop .inv) (c .loop-test .left)
 
 pub fill-spec : {M : Type 1} → statement M
 fill-spec =

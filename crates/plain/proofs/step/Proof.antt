@@ -14,7 +14,8 @@ use Rattle.plain.proofs.step.Tie as tie
 
 abbrev Inv-loop : tie.InvT-loop
 Inv-loop heads bodies m v next₀ j₀ next j =
-    (j ≤ m) × (length next ≡ length next₀) × (next ≡ withModel (union (modelIn next₀) (headsFrom heads bodies j (modelIn v))) next₀)
+    (j ≤ m) × (length next ≡ length next₀)
+    × (next ≡ withModel (union (modelIn next₀) (headsFrom (record { heads = heads; bodies = bodies }) j (modelIn v))) next₀)
 
 abbrev μ-loop : tie.MeasureT-loop
 μ-loop heads bodies m v next₀ j₀ next j = m - j
@@ -23,7 +24,7 @@ loop-holds : tie.Need-loop-holds Inv-loop μ-loop
 loop-holds c =
     let s = c .before .before .before .before in
     let a = s .args in
-    (search needs, search needs, step-none (a .heads .now) (a .bodies .now) (a .v .now) (a .next .now) (c .slice-known .given) (s .pre .2))
+    (search needs, search needs, step-none _ (a .v .now) (a .next .now) (c .slice-known .given) (s .pre .2))
 
 cast-insert : tie.Need-cast-insert Inv-loop μ-loop
 cast-insert c = omega (arith, c .shared-slice-known4 .given (c .before .before .before .before .before .before .loop .j))
@@ -42,10 +43,10 @@ loop-again c =
     let a = t .args in
     let r = body-test (a .bodies .now) (a .v .now) (l .loop .j) _ _ (w .before .body-at .ensures) (w .within .ensures) in
     let q =
-    step-length (a .heads .now) (a .bodies .now) (a .v .now) (a .next .now) (c .if1 .next) (l .loop .j + 1) (t .pre .2)
+    step-length _ (a .v .now) (a .next .now) (c .if1 .next) (l .loop .j + 1) (t .pre .2)
     (⊎-elim
-    (λ u. u .6 ∙ step-in (a .heads .now) (a .bodies .now) (a .v .now) (a .next .now) _ _ (l .loop .inv .2) _ r _ (u .0 .taken) (u .3 .ensures))
-    (λ u. u .1 ∙ step-out (a .heads .now) (a .bodies .now) (a .v .now) (a .next .now) _ _ (l .loop .inv .2) _ r (u .0 .left))
+    (λ u. u .6 ∙ step-in _ (a .v .now) (a .next .now) _ _ (l .loop .inv .2) _ r _ (u .0 .taken) (u .3 .ensures))
+    (λ u. u .1 ∙ step-out _ (a .v .now) (a .next .now) _ _ (l .loop .inv .2) _ r (u .0 .left))
     (c .if1 .came)) in
     (omega (arith, w .before .before .loop-test .taken), q .0, q .1)
 
@@ -53,7 +54,7 @@ returns : tie.Need-returns Inv-loop μ-loop
 returns c =
     let l = c .before in
     let a = l .before .before .before .before .before .args in
-    step-all (a .heads .now) (a .bodies .now) (a .v .now) (a .next .now) _ _ _ (l .loop .inv .0) (c .loop-test .left) (l .loop .inv .2)
+    step-all _ (a .v .now) (a .next .now) _ _ _ (l .loop .inv .0) (c .loop-test .left) (l .loop .inv .2)
 
 pub step-spec : {M : Type 1} → statement M
 step-spec =

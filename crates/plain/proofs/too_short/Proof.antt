@@ -7,6 +7,6 @@ pub too-short-spec : {M : Type 1} → statement M
 too-short-spec =
     tie.close
     (tie.spec
-    (λ c. lack-heads _ _ _ (c .if1 .taken))
-    (λ c. lack-bodies _ _ _ (c .if2 .taken))
-    (λ c. lack-model _ _ _ (c .before .if1 .left) (c .if2 .left)))
+    (λ c. lack-heads _ _ (c .if1 .taken))
+    (λ c. lack-bodies _ _ (c .if2 .taken))
+    (λ c. lack-model _ _ (c .before .if1 .left, c .if2 .left)))

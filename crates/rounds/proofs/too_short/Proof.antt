@@ -7,6 +7,6 @@ pub too-short-spec : {M : Type 1} → statement M
 too-short-spec =
     tie.close
     (tie.spec
-    (λ c. lack-all _ _ _ (c .if1 .taken))
-    (λ c. lack-any _ _ _ (c .if2 .taken))
-    (λ c. lack-model _ _ _ (c .before .if1 .left) (c .if2 .left)))
+    (λ c. lack-all _ (c .if1 .taken))
+    (λ c. lack-any _ (c .if2 .taken))
+    (λ c. lack-model _ (c .before .if1 .left) (c .if2 .left)))

@@ -17,7 +17,7 @@ use Rattle.rounds.proofs.until_still.Tie as tie
 abbrev Inv-loop : tie.InvT-loop
 Inv-loop all any model₀ next₀ m count₀ model next count =
     (length model ≡ length model₀) × (length next ≡ length next₀) × (m ≤ atoms) × (count ≤ m + 1)
-    × Turn m (round (systemIn all any model₀ m)) (modelIn model₀) (nextSet all any) model₀ next₀ model next count
+    × Turn m (round (systemIn (record { all = all; any = any; model = model₀ }) m)) (modelIn model₀) (nextSet all any) model₀ next₀ model next count
 
 abbrev μ-loop : tie.MeasureT-loop
 μ-loop all any model₀ next₀ m count₀ model next count = m + 1 - count
@@ -25,7 +25,7 @@ abbrev μ-loop : tie.MeasureT-loop
 loop-holds : tie.Need-loop-holds Inv-loop μ-loop
 loop-holds c =
     let p = c .before .before .before .before .pre in
-    (search needs, search needs, few _ _ _ _ (p .formed), search needs, first-turn _ _ _ _ _ p (c .before .slice-known .given))
+    (search needs, search needs, few _ _ (p .formed), search needs, first-turn _ _ _ p (c .before .slice-known .given))
 
 loop-less : tie.Need-loop-less Inv-loop μ-loop
 loop-less c =
@@ -33,7 +33,7 @@ loop-less c =
     let l = e .before .before .before in
     let p = l .before .before .before .before .before .pre in
     let t = c .before .before .before .before .before .before .before .before .before .before .if1 .taken in
-    omega (arith, turn-less _ _ _ _ (stepping _ _ _ _ _ p) _ _ _ _ _ (l .loop .inv .4) _ (e .equal .ensures) t)
+    omega (arith, turn-less _ _ _ _ (stepping _ _ _ p) _ _ _ _ _ (l .loop .inv .4) _ (e .equal .ensures) t)
 
 loop-again : tie.Need-loop-again Inv-loop μ-loop
 loop-again c =
@@ -45,8 +45,8 @@ loop-again c =
       search needs,
       search needs,
       l .loop .inv .2,
-      turn-less _ _ _ _ (stepping _ _ _ _ _ p) _ _ _ _ _ (l .loop .inv .4) _ (e .equal .ensures) t,
-      turn-on _ _ _ _ (stepping _ _ _ _ _ p) _ _ _ _ _ (l .loop .inv .4) _ _ _ (e .equal .ensures) t (u .copy .ensures)
+      turn-less _ _ _ _ (stepping _ _ _ p) _ _ _ _ _ (l .loop .inv .4) _ (e .equal .ensures) t,
+      turn-on _ _ _ _ (stepping _ _ _ p) _ _ _ _ _ (l .loop .inv .4) _ _ _ (e .equal .ensures) t (u .copy .ensures)
           (c .before .before .step .ensures),
     )
 
@@ -55,10 +55,10 @@ returns c =
     let l = c .before .before .before .before in
     let p = l .before .before .before .before .before .pre in
     let e = c .before .equal .ensures in (
-      last-count _ _ _ _ _ p _ _ _ (l .loop .inv .4) _ e (c .if1 .left),
+      last-count _ _ _ p _ _ _ (l .loop .inv .4) _ e (c .if1 .left),
       (
-        last-model _ _ _ _ _ p _ _ _ (l .loop .inv .4) _ e (c .if1 .left),
-        last-next _ _ _ _ _ p _ _ _ (l .loop .inv .4) _ e (c .if1 .left),
+        last-model _ _ _ p _ _ _ (l .loop .inv .4) _ e (c .if1 .left),
+        last-next _ _ _ p _ _ _ (l .loop .inv .4) _ e (c .if1 .left),
       ),
     )
 

@@ -8,17 +8,15 @@ use Rattle.standard.proofs.standardise.Statement.{statement}
 use Rattle.standard.proofs.standardise.Tie as tie
 
 returns : tie.Need-returns
-returns c = call-short _ _ _ _ _ _ _ _ (c .before .too-short .ensures) (c .if1 .taken)
+returns c = call-short _ _ _ _ (c .before .too-short .ensures) (c .if1 .taken)
 
 formed-requires : tie.Need-formed-requires
-formed-requires c κs =
-    let l = long-enough _ _ _ _ _ _ (c .before .too-short .ensures) (c .if1 .left) in
-    (l .0, l .1)
+formed-requires c κs = long-enough _ _ _ _ _ _ (c .before .too-short .ensures) (c .if1 .left) .0
 
 returns-2 : tie.Need-returns-2
 returns-2 c =
     let e = c .before .before in
-    call-ill _ _ _ _ _ _ _ _ (e .before .too-short .ensures) (e .if1 .left) _ (c .before .formed .ensures) (c .if2 .taken)
+    call-ill _ _ _ _ (e .before .too-short .ensures) (e .if1 .left) _ (c .before .formed .ensures) (c .if2 .taken)
 
 standardise-formed-requires : tie.Need-standardise-formed-requires
 standardise-formed-requires c κs =

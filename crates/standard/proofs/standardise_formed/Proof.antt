@@ -8,30 +8,31 @@ use Rattle.standard.proofs.standardise_formed.Tie as tie
 several-requires : tie.Need-several-requires
 several-requires c κs =
     let k = c .before .before .before .before .before .pre .0 in
-    (in-limits _ _ _ _ (k .1) .1, k .0 .0, head-names _ _ _ _ (k .1))
+    (in-limits _ _ (k .1) .1, k .0 .0 .0, head-names _ _ (k .1))
 
 helpers-requires : tie.Need-helpers-requires
 helpers-requires c κs =
     let k = c .before .before .before .before .before .before .before .pre .0 in
-    (in-limits _ _ _ _ (k .1) .1, k .0 .0, search needs, head-names _ _ _ _ (k .1))
+    (in-limits _ _ (k .1) .1, k .0 .0 .0, search needs, head-names _ _ (k .1))
 
 add-atoms : tie.Need-add-atoms
 add-atoms c =
     let s = c .before .before in
     let k = s .before .before .before .before .before .before .pre .0 in
-    omega (arith, helpers-few _ _ _ _ (k .1) _ (s .several .ensures) _ (c .helpers .ensures))
+    omega (arith, helpers-few _ _ (k .1) _ (s .several .ensures) _ (c .helpers .ensures))
 
 returns : tie.Need-returns
 returns c =
     let s = c .before .before .before in
     let k = s .before .before .before .before .before .before .pre .0 in
-    call-over _ _ _ _ _ _ _ (k .0) (k .1) _ (s .several .ensures) _ (c .before .helpers .ensures) (c .if1 .taken)
+    call-over _ _ _ (k .0) (k .1) _ (s .several .ensures) _ (c .before .helpers .ensures) (c .if1 .taken)
 
 begin-requires : tie.Need-begin-requires
 begin-requires c κs =
     let a = c .before .before .before in
     let k = a .before .before .before .before .before .before .before .before .before .pre in
-    ((a .if1 .left, k .0 .0 .2, k .0 .0 .3, k .0 .0 .4), k .1)
+    let l = k .0 .0 .1 in
+    ((a .if1 .left, l .0, l .1, l .2), k .1)
 
 fill-requires : tie.Need-fill-requires
 fill-requires c κs =
@@ -39,7 +40,7 @@ fill-requires c κs =
     let a = b .before .before .before .before in
     let s = a .before .before .before in
     let k = s .before .before .before .before .before .before .pre .0 in
-    rows-ready _ _ _ _ (k .1) _ (s .several .ensures) _ (a .before .helpers .ensures) (a .if1 .left) _ _ _ _ _ _
+    rows-ready _ _ (k .1) _ (s .several .ensures) _ (a .before .helpers .ensures) (a .if1 .left) _ _
     (b .begin .ensures .0) (b .begin .ensures .1 .0) (b .begin .ensures .1 .1) (k .0)
 
 returns-2 : tie.Need-returns-2
@@ -49,9 +50,8 @@ returns-2 c =
     let a = b .before .before .before .before in
     let s = a .before .before .before in
     let k = s .before .before .before .before .before .before .pre .0 in
-    call-done _ _ _ _ _ _ _ (k .0) (k .1) _ (s .several .ensures) _ (a .before .helpers .ensures) (a .if1 .left)
-    _ _ _ (b .begin .ensures .0) (b .begin .ensures .1 .0) (b .begin .ensures .1 .1) _ _ _ _ _
-    (p .fill .ensures .0) (p .fill .ensures .1 .0) (p .fill .ensures .1 .1 .0) (p .fill .ensures .1 .1 .1) (c .count .ensures)
+    call-done _ _ _ (k .0) (k .1) _ (s .several .ensures) _ (a .before .helpers .ensures) (a .if1 .left)
+    _ (b .begin .ensures .0) (b .begin .ensures .1 .0) (b .begin .ensures .1 .1) _ _ _ (p .fill .ensures) (c .count .ensures)
 
 pub standardise-formed-spec : {M : Type 1} → statement M
 standardise-formed-spec =

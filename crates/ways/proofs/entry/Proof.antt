@@ -14,24 +14,24 @@ returns : tie.Need-returns
 returns c =
     let s = c .before .before .before .before .before .before .before in
     let a = s .args in
-    body-decides (a .heads .now) (a .bodies .now) (a .n) (a .m) (a .j) _ _ (c .before .before .if1 .taken) (c .before .if2 .taken) (s .pre .0)
+    body-decides _ _ (a .j) _ _ (c .before .before .if1 .taken) (c .before .if2 .taken) (s .pre .0)
     (c .before .before .before .body-at .ensures) (c .next .ensures)
 
 returns-2 : tie.Need-returns-2
 returns-2 c =
     let a = c .before .before .before .before .before .before .args in
-    le-ltb _ _ (c .if2 .left) ∙ head-over (a .heads .now) (a .bodies .now) (a .n) (a .m) (a .j) (c .before .if1 .taken) (c .if2 .left)
+    le-ltb _ _ (c .if2 .left) ∙ head-over _ _ (a .j) (c .before .if1 .taken) (c .if2 .left)
 
 returns-3 : tie.Need-returns-3
 returns-3 c =
     let a = c .before .before .before .before .before .before .before .args in
-    body-left (a .heads .now) (a .bodies .now) (a .n) (a .m) (a .j) _ _ (c .before .before .if1 .left) (c .before .if3 .taken)
+    body-left _ _ (a .j) _ _ (c .before .before .if1 .left) (c .before .if3 .taken)
     (c .before .before .before .body-at .ensures) (c .empty .ensures)
 
 returns-4 : tie.Need-returns-4
 returns-4 c =
     let a = c .before .before .before .before .before .before .args in
-    ne-eqb _ _ (c .if3 .left) ∙ head-left (a .heads .now) (a .bodies .now) (a .n) (a .m) (a .j) (c .before .if1 .left) (c .if3 .left)
+    ne-eqb _ _ (c .if3 .left) ∙ head-left _ _ (a .j) (c .before .if1 .left) (c .if3 .left)
 
 pub entry-spec : {M : Type 1} → statement M
 entry-spec =

@@ -13,23 +13,23 @@ use Rattle.ways.proofs.formed.Statement.{statement}
 use Rattle.ways.proofs.formed.Tie as tie
 
 abbrev Inv-loop : tie.InvT-loop
-Inv-loop heads bodies n m j₀ j = (j ≤ rules) × (every j (formedEntry heads bodies n m) ≡ true)
+Inv-loop heads bodies n m j₀ j = (j ≤ rules) × (every j (formedEntry (record { heads = heads; bodies = bodies }) (record { names = n; rules = m })) ≡ true)
 
 abbrev μ-loop : tie.MeasureT-loop
 μ-loop heads bodies n m j₀ j = rules - j
 
 returns : tie.Need-returns Inv-loop μ-loop
-returns c = too-many-names _ _ _ _ (c .if1 .taken)
+returns c = too-many-names _ _ (c .if1 .taken)
 
 returns-2 : tie.Need-returns-2 Inv-loop μ-loop
-returns-2 c = too-many-rules _ _ _ _ (c .if2 .taken)
+returns-2 c = too-many-rules _ _ (c .if2 .taken)
 
 loop-holds : tie.Need-loop-holds Inv-loop μ-loop
 loop-holds c = (search needs, every-none _)
 
 returns-3 : tie.Need-returns-3 Inv-loop μ-loop
 returns-3 c =
-    entry-off _ _ _ _ _ (c .before .before .before .before .before .if1 .left) (c .before .before .before .before .if2 .left)
+    entry-off _ _ _ (c .before .before .before .before .before .if1 .left) (c .before .before .before .before .if2 .left)
     (c .before .before .loop-test .taken) (sym (c .before .entry .ensures) ∙ not-true (c .before .entry .result) (c .if3 .taken))
 
 loop-again : tie.Need-loop-again Inv-loop μ-loop
@@ -41,7 +41,7 @@ loop-again c = (
 returns-4 : tie.Need-returns-4 Inv-loop μ-loop
 returns-4 c =
     let l = c .before .loop in
-    entries-end _ _ _ _ _ (c .before .before .before .if1 .left) (c .before .before .if2 .left) (l .inv .0) (c .loop-test .left) (l .inv .1)
+    entries-end _ _ _ (c .before .before .before .if1 .left) (c .before .before .if2 .left) (l .inv .0) (c .loop-test .left) (l .inv .1)
 
 pub formed-spec : {M : Type 1} → statement M
 formed-spec =
