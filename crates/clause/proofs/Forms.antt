@@ -11,308 +11,304 @@ use borrow.Author.Tests.{leb-true, le-leb, lt-leb}
 use Rattle.limits.specs.Book.{nameBytes}
 use Rattle.sets.specs.Set.{pick}
 use Rattle.sets.proofs.Logic.{either, and-left, pick-true, pick-false}
-use Rattle.grammar.specs.Bytes.{Bytes, blank, notEnd, nameByte, folded, allOf, colon, lineEnd}
+use Rattle.grammar.specs.Bytes.{Bytes, Folding, blank, notEnd, nameByte, allOf, colon, lineEnd}
 use Rattle.grammar.specs.Grammar.{Clause, Form, rule, fault, spelling}
 use Rattle.grammar.specs.Lines.{span, run, past, wordsOf, isName, allNames, starts, fromColon, fromHead}
 use Rattle.grammar.proofs.Spans.{all-run, past-past}
-use Rattle.grammar.proofs.Words.{blank-end, name-end, words-nil, words-past, names-nil, words-fault, words-sound, words-more}
-use Rattle.grammar.proofs.Folding.{folding}
-use Rattle.clause.specs.Line.{Closed, lineAt, headAt, wordsAt, pastAt, unblank, unword, nameRun, isRule}
+use Rattle.grammar.proofs.Words.{blank-end, name-end, uncolon, words-nil, words-past, names-nil, words-fault, words-sound, words-more}
+use Rattle.scan.specs.Places.{pastAt, nameRun}
+use Rattle.clause.specs.Line.{Closed, lineAt, headAt, wordsAt, unblank, unword, faultOf}
 use Rattle.clause.proofs.Places.{run-size, starts-eq, closed-past, line-past, run-line, end-past, sees-line, sees-end, end-here, sees-more, closed-next}
 use Rattle.clause.proofs.Places.{line-next, end-next, in-text}
 
--- a name byte is no line end
-end-name : nameByte folded lineEnd ≡ false
-end-name = name-end folded folding
+module _ (fold : ℕ → ℕ) where
+  -- a run of 1 to 32 name bytes is a name
+  pub name-none : (t : Bytes) (i end : ℕ) → end ≤ i → end ≡ pastAt (nameByte fold) t i → false ≡ isName fold (nameRun fold t i)
+  unfolding isName
+  name-none t i end h e =
+      let n : length (nameRun fold t i) ≡ span (nameByte fold) (drop i t) = run-size (nameByte fold) (drop i t) in
+      sym (ap (λ (b : Bool). b && (leb (length (nameRun fold t i)) nameBytes && allOf (nameByte fold) (nameRun fold t i)))
+      (lt-leb 1 (length (nameRun fold t i)) (omega arith)))
 
--- a run of 1 to 32 name bytes is a name
-pub name-none : (t : Bytes) (i end : ℕ) → end ≤ i → end ≡ pastAt (nameByte folded) t i → false ≡ isName folded (nameRun t i)
-unfolding isName
-name-none t i end h e =
-    let n : length (nameRun t i) ≡ span (nameByte folded) (drop i t) = run-size (nameByte folded) (drop i t) in
-    sym (ap (λ (b : Bool). b && (leb (length (nameRun t i)) nameBytes && allOf (nameByte folded) (nameRun t i)))
-    (lt-leb 1 (length (nameRun t i)) (omega arith)))
+  pub name-some : (t : Bytes) (i end : ℕ) → i < end → end ≡ pastAt (nameByte fold) t i → leb (end - i) nameBytes ≡ isName fold (nameRun fold t i)
+  unfolding isName
+  name-some t i end h e =
+      let m : end - i ≡ span (nameByte fold) (drop i t) = omega arith in
+      let n : end - i ≡ length (nameRun fold t i) =
+      m ∙ sym (run-size (nameByte fold) (drop i t))
+      in
+      let o : leb 1 (length (nameRun fold t i)) ≡ true = le-leb 1 (length (nameRun fold t i)) (omega arith) in
+      ap (λ (k : ℕ). leb k nameBytes) n ∙ sym (rw (o, all-run (nameByte fold) (drop i t)) (and-true (leb (length (nameRun fold t i)) nameBytes)))
+    where
+      and-true : (b : Bool) → b && true ≡ b
+      and-true true = refl
+      and-true false = refl
 
-pub name-some : (t : Bytes) (i end : ℕ) → i < end → end ≡ pastAt (nameByte folded) t i → leb (end - i) nameBytes ≡ isName folded (nameRun t i)
-unfolding isName
-name-some t i end h e =
-    let m : end - i ≡ span (nameByte folded) (drop i t) = omega arith in
-    let n : end - i ≡ length (nameRun t i) =
-    m ∙ sym (run-size (nameByte folded) (drop i t))
-    in
-    let o : leb 1 (length (nameRun t i)) ≡ true = le-leb 1 (length (nameRun t i)) (omega arith) in
-    ap (λ (k : ℕ). leb k nameBytes) n ∙ sym (rw (o, all-run (nameByte folded) (drop i t)) (and-true (leb (length (nameRun t i)) nameBytes)))
-  where
-    and-true : (b : Bool) → b && true ≡ b
-    and-true true = refl
-    and-true false = refl
+  -- a name has a byte
+  pub name-long : (t : Bytes) (i : ℕ) → isName fold (nameRun fold t i) ≡ true → 1 ≤ span (nameByte fold) (drop i t)
+  unfolding isName
+  name-long t i e =
+      let n : length (nameRun fold t i) ≡ span (nameByte fold) (drop i t) = run-size (nameByte fold) (drop i t) in
+      omega (arith, leb-true 1 (length (nameRun fold t i)) (and-left (leb 1 (length (nameRun fold t i))) _ e))
 
--- a name has a byte
-pub name-long : (t : Bytes) (i : ℕ) → isName folded (nameRun t i) ≡ true → 1 ≤ span (nameByte folded) (drop i t)
-unfolding isName
-name-long t i e =
-    let n : length (nameRun t i) ≡ span (nameByte folded) (drop i t) = run-size (nameByte folded) (drop i t) in
-    omega (arith, leb-true 1 (length (nameRun t i)) (and-left (leb 1 (length (nameRun t i))) _ e))
+  -- past a word, whose end is known, and the blanks after it
+  pub past-word : (t : Bytes) (i end at : ℕ) → end ≡ pastAt (nameByte fold) t i → at ≡ unblank t end → at ≡ unword fold t i
+  past-word t i end at e q = q ∙ ap (unblank t) e
 
--- past a word, whose end is known, and the blanks after it
-pub past-word : (t : Bytes) (i end at : ℕ) → end ≡ pastAt (nameByte folded) t i → at ≡ unblank t end → at ≡ unword t i
-past-word t i end at e q = q ∙ ap (unblank t) e
-
--- Places in a line that has its end.
-module _ (t : Bytes) (i : ℕ) (k : Closed t i) where
-  -- the line past its blanks
-  pub line-unblank : lineAt t (unblank t i) ≡ past blank (lineAt t i)
-  line-unblank = line-past t i k blank blank-end
-
-  pub closed-unblank : Closed t (unblank t i)
-  closed-unblank = closed-past t i k blank blank-end
-
-  pub end-unblank : pastAt notEnd t (unblank t i) ≡ pastAt notEnd t i
-  end-unblank = end-past t i k blank blank-end
-
-  -- and past its first run of name bytes too
-  after-word : Closed t (pastAt (nameByte folded) t i)
-  after-word = closed-past t i k (nameByte folded) end-name
-
-  closed-unword : Closed t (unword t i)
-  closed-unword = closed-past t (pastAt (nameByte folded) t i) after-word blank blank-end
-
-  line-unword : lineAt t (unword t i) ≡ past blank (past (nameByte folded) (lineAt t i))
-  line-unword =
-      line-past t (pastAt (nameByte folded) t i) after-word blank blank-end ∙ ap (past blank) (line-past t i k (nameByte folded) end-name)
-
-  end-unword : pastAt notEnd t (unword t i) ≡ pastAt notEnd t i
-  end-unword =
-      end-past t (pastAt (nameByte folded) t i) after-word blank blank-end ∙ end-past t i k (nameByte folded) end-name
-
-  run-name : nameRun t i ≡ run (nameByte folded) (lineAt t i)
-  run-name = run-line t i k (nameByte folded) end-name
-
-  -- a name takes the place on, within the text
-  word-less : isName folded (nameRun t i) ≡ true → length t - unword t i < length t - i
-  word-less n =
-      omega (arith, name-long t i n, in-text t (pastAt (nameByte folded) t i) after-word blank blank-end)
-
--- From the head on.
-
--- a line with bytes
-from-head : (s : Bytes) → (s ≡ [] → ⊥)
-    → fromHead folded s
-    ≡ pick (isName folded (run (nameByte folded) s)) (fromColon folded (run (nameByte folded) s) (past blank (past (nameByte folded) s))) fault
-unfolding fromHead
-from-head [] n = absurd (n refl)
-from-head (b ∷ s) n = refl
-
--- no colon behind a head
-uncolon : (h u : Bytes) → starts colon u ≡ false → fromColon folded h u ≡ fault
-unfolding fromColon starts
-uncolon h [] e = refl
-uncolon h (b ∷ u) e = pick-false (rule (spelling folded h (wordsOf u))) fault (rw e)
-
--- a colon: the words behind it tell
-with-colon : (h u : Bytes) → fromColon folded h (colon ∷ u) ≡ pick (allNames folded (wordsOf u)) (rule (spelling folded h (wordsOf u))) fault
-unfolding fromColon
-with-colon h u = refl
-
--- a rule by what it says
-picked : (b : Bool) (x c : Clause) → pick b (rule x) fault ≡ rule c → (b ≡ true) × (x ≡ c)
-unfolding pick
-picked true x c e = (refl, cc)
-picked false x c e = let z : _≡_ {A = ℕ} 0 1 = cc in absurd (omega arith)
-
--- a line whose head should stand at place i, before its end
-module _ (t : Bytes) (i : ℕ) (k : Closed t i) (e : starts lineEnd (drop i t) ≡ false) where
-  not-empty : lineAt t i ≡ [] → ⊥
-  not-empty q = sees-more t i k e (λ b u p. let z : _≡_ {A = ℕ} 0 1 = cc in omega arith)
-
-  -- by its head
-  pub by-head : headAt t i ≡ pick (isName folded (nameRun t i)) (fromColon folded (nameRun t i) (past blank (past (nameByte folded) (lineAt t i)))) fault
-  by-head =
-      from-head (lineAt t i) not-empty
-      ∙ ap (λ (h : Bytes). pick (isName folded h) (fromColon folded h (past blank (past (nameByte folded) (lineAt t i)))) fault) (sym (run-name t i k))
-
-  -- no name there: no rule
-  pub headless : isName folded (nameRun t i) ≡ false → headAt t i ≡ fault
-  headless n = by-head ∙ pick-false _ fault n
-
-  -- the place behind the head and its blanks
-  module _ (mid : ℕ) (at : mid ≡ unword t i) where
-    mid-closed : Closed t mid
-    mid-closed = subst (Closed t) (sym at) (closed-unword t i k)
-
-    mid-line : lineAt t mid ≡ past blank (past (nameByte folded) (lineAt t i))
-    mid-line = ap (lineAt t) at ∙ line-unword t i k
-
-    mid-sees : starts colon (drop mid t) ≡ starts colon (past blank (past (nameByte folded) (lineAt t i)))
-    mid-sees = sees-line t mid mid-closed colon refl ∙ ap (starts colon) mid-line
-
-    -- no colon there
-    pub uncoloned : starts colon (drop mid t) ≡ false → headAt t i ≡ fault
-    uncoloned c =
-        by-head
-        ∙ either (isName folded (nameRun t i))
-        (λ n. pick-true _ fault n ∙ uncolon (nameRun t i) (past blank (past (nameByte folded) (lineAt t i))) (sym mid-sees ∙ c))
-        (λ n. pick-false _ fault n)
-
-    module _ (c : starts colon (drop mid t) ≡ true) where
-      seen : (u : Bytes) × (lineAt t mid ≡ colon ∷ u)
-      seen = starts-eq colon (lineAt t mid) (sym (sees-line t mid mid-closed colon refl) ∙ c)
-
-      -- the colon lies in the text, and the line goes on behind it
-      pub colon-in : mid < length t
-      colon-in = subst (λ (j : ℕ). j < length t) (sym at) (in-text t (pastAt (nameByte folded) t i) (after-word t i k) blank blank-end)
-
-      pub closed-body : Closed t (mid + 1)
-      closed-body = closed-next t mid mid-closed colon (seen .0) (seen .1)
-
-      -- to the same end
-      pub end-body : pastAt notEnd t (mid + 1) ≡ pastAt notEnd t i
-      end-body = end-next t mid mid-closed colon (seen .0) (seen .1) ∙ ap (pastAt notEnd t) at ∙ end-unword t i k
-
-      body-is : past blank (past (nameByte folded) (lineAt t i)) ≡ colon ∷ lineAt t (mid + 1)
-      body-is =
-          sym mid-line ∙ seen .1 ∙ ap (λ (x : Bytes). colon ∷ x) (sym (line-next t mid mid-closed colon (seen .0) (seen .1)))
-
-      -- a head and a colon: the words behind it tell
-      coloned : isName folded (nameRun t i) ≡ true
-          → headAt t i ≡ pick (allNames folded (wordsAt t (mid + 1))) (rule (spelling folded (nameRun t i) (wordsAt t (mid + 1)))) fault
-      coloned n =
-          by-head ∙ pick-true _ fault n ∙ ap (fromColon folded (nameRun t i)) body-is ∙ with-colon (nameRun t i) (lineAt t (mid + 1))
-
-      pub judged : isName folded (nameRun t i) ≡ true → allNames folded (wordsAt t (mid + 1)) ≡ isRule (headAt t i)
-      unfolding isRule
-      judged n =
-          either (allNames folded (wordsAt t (mid + 1)))
-          (λ q. q ∙ sym (ap isRule (coloned n ∙ pick-true _ fault q)))
-          (λ q. q ∙ sym (ap isRule (coloned n ∙ pick-false _ fault q)))
-
-      -- a rule says the clause that they spell
-      pub says : isName folded (nameRun t i) ≡ true → (d : Clause) → headAt t i ≡ rule d
-          → (allNames folded (wordsAt t (mid + 1)) ≡ true) × (spelling folded (nameRun t i) (wordsAt t (mid + 1)) ≡ d)
-      says n d q = picked (allNames folded (wordsAt t (mid + 1))) (spelling folded (nameRun t i) (wordsAt t (mid + 1))) d (sym (coloned n) ∙ q)
-
--- a fault is no rule
-pub fault-rule : (f : Form) → f ≡ fault → false ≡ isRule f
-unfolding isRule
-fault-rule f e = sym (ap isRule e)
-
--- Words.
+-- a fault has its number
+pub fault-number : (f : Form) (k : ℕ) → f ≡ fault k → k ≡ faultOf f
+unfolding faultOf
+fault-number f k e = sym (ap faultOf e)
 
 -- the place is past blanks already
 abbrev pub Trim : Bytes → ℕ → Type 0
 Trim t i = past blank (lineAt t i) ≡ lineAt t i
 
-module _ (t : Bytes) (i : ℕ) (k : Closed t i) where
-  -- past the blanks it is
-  trim-unblank : Trim t (unblank t i)
-  trim-unblank =
-      ap (past blank) (line-unblank t i k) ∙ past-past blank (lineAt t i) ∙ sym (line-unblank t i k)
-
-  trim-unword : Trim t (unword t i)
-  trim-unword =
-      ap (past blank) (line-unword t i k) ∙ past-past blank (past (nameByte folded) (lineAt t i)) ∙ sym (line-unword t i k)
-
-  -- the words are those past the blanks
-  words-unblank : wordsAt t (unblank t i) ≡ wordsAt t i
-  words-unblank = ap wordsOf (line-unblank t i k) ∙ sym (words-past (lineAt t i))
-
-  -- at the line's end there are none
-  words-end : starts lineEnd (drop i t) ≡ true → wordsAt t i ≡ []
-  words-end e = ap wordsOf (sees-end t i k e) ∙ words-nil
-
-  module _ (trim : Trim t i) (e : starts lineEnd (drop i t) ≡ false) where
-    first : {X : Type 0} → ((b : ℕ) (u : Bytes) → past blank (lineAt t i) ≡ b ∷ u → X) → X
-    first g = sees-more t i k e (λ b u q. g b u (trim ∙ q))
-
-    same-run : nameRun t i ≡ run (nameByte folded) (past blank (lineAt t i))
-    same-run = run-name t i k ∙ ap (run (nameByte folded)) (sym trim)
-
-    words-on : wordsAt t (unword t i) ≡ wordsOf (past (nameByte folded) (past blank (lineAt t i)))
-    words-on =
-        ap wordsOf (line-unword t i k) ∙ sym (words-past (past (nameByte folded) (lineAt t i)))
-        ∙ ap (λ (x : Bytes). wordsOf (past (nameByte folded) x)) (sym trim)
-
-    -- no name there: the words are not all names
-    unsound : isName folded (nameRun t i) ≡ false → allNames folded (wordsAt t i) ≡ false
-    unsound n = first (λ b u q. words-fault folded folding (lineAt t i) b u q (sym (ap (isName folded) same-run) ∙ n))
-
-    -- a name: they are where those behind it are
-    sound : isName folded (nameRun t i) ≡ true → allNames folded (wordsAt t (unword t i)) ≡ allNames folded (wordsAt t i)
-    sound n =
-        first
-        (λ b u q.
-        ap (allNames folded) words-on ∙ sym (words-sound folded folding (lineAt t i) b u q (sym (ap (isName folded) same-run) ∙ n)))
-
-    -- and then they are that name and those behind it
-    words-cons : allNames folded (wordsAt t i) ≡ true → wordsAt t i ≡ nameRun t i ∷ wordsAt t (unword t i)
-    words-cons a =
-        first
-        (λ b u q.
-        words-more folded folding (lineAt t i) b u q a
-        ∙ ap (λ (x : Bytes). x ∷ wordsOf (past (nameByte folded) (past blank (lineAt t i)))) (sym same-run)
-        ∙ ap (λ (ws : List Bytes). nameRun t i ∷ ws) (sym words-on))
-
 -- The words from place i one after another: at place j the words ds are passed.
-pub record Walk (t : Bytes) (i j : ℕ) (ds : List Bytes) : Type 0 where
+pub record Walk (fold : ℕ → ℕ) (t : Bytes) (i j : ℕ) (ds : List Bytes) : Type 0 where
   pub closed : Closed t j
   pub trim : Trim t j
   pub ends : pastAt notEnd t j ≡ pastAt notEnd t i
-  pub tells : allNames folded (wordsAt t j) ≡ allNames folded (wordsAt t i)
-  pub words : allNames folded (wordsAt t j) ≡ true → wordsAt t i ≡ ds ++ wordsAt t j
+  pub tells : allNames fold (wordsAt t j) ≡ allNames fold (wordsAt t i)
+  pub words : allNames fold (wordsAt t j) ≡ true → wordsAt t i ≡ ds ++ wordsAt t j
 
--- the start, past the blanks at i
-module _ (t : Bytes) (i j : ℕ) (k : Closed t i) (e : j ≡ unblank t i) where
-  pub walk-start : Walk t j j []
-  walk-start =
-      record {
-        closed = subst (Closed t) (sym e) (closed-unblank t i k);
-        trim = subst (Trim t) (sym e) (trim-unblank t i k);
-        ends = refl;
-        tells = refl;
-        words = λ a. refl;
-      }
+module _ (fold : ℕ → ℕ) (law : Folding fold) where
+  -- a name byte is no line end
+  end-name : nameByte fold lineEnd ≡ false
+  end-name = name-end fold law
 
-  -- the words and the end are those from i
-  pub same-words : wordsAt t j ≡ wordsAt t i
-  same-words = ap (wordsAt t) e ∙ words-unblank t i k
+  -- Places in a line that has its end.
+  module _ (t : Bytes) (i : ℕ) (k : Closed t i) where
+    -- the line past its blanks
+    pub line-unblank : lineAt t (unblank t i) ≡ past blank (lineAt t i)
+    line-unblank = line-past t i k blank blank-end
 
-  pub same-end : pastAt notEnd t j ≡ pastAt notEnd t i
-  same-end = ap (pastAt notEnd t) e ∙ end-unblank t i k
+    pub closed-unblank : Closed t (unblank t i)
+    closed-unblank = closed-past t i k blank blank-end
 
-module _ (t : Bytes) (i j : ℕ) (ds : List Bytes) (w : Walk t i j ds) where
-  -- a word that is no name
-  pub walk-fault : starts lineEnd (drop j t) ≡ false → isName folded (nameRun t j) ≡ false → false ≡ allNames folded (wordsAt t i)
-  walk-fault e n = sym (unsound t j (w .closed) (w .trim) e n) ∙ w .tells
+    pub end-unblank : pastAt notEnd t (unblank t i) ≡ pastAt notEnd t i
+    end-unblank = end-past t i k blank blank-end
 
-  -- the line's end: each word was a name, and they are all passed
-  pub walk-sound : starts lineEnd (drop j t) ≡ true → true ≡ allNames folded (wordsAt t i)
-  walk-sound e = sym (ap (allNames folded) (words-end t j (w .closed) e) ∙ names-nil folded) ∙ w .tells
+    -- and past its first run of name bytes too
+    after-word : Closed t (pastAt (nameByte fold) t i)
+    after-word = closed-past t i k (nameByte fold) end-name
 
-  pub walk-end : starts lineEnd (drop j t) ≡ true → j ≡ pastAt notEnd t i
-  walk-end e = end-here t j (w .closed) e ∙ w .ends
+    closed-unword : Closed t (unword fold t i)
+    closed-unword = closed-past t (pastAt (nameByte fold) t i) after-word blank blank-end
 
-  pub walk-all : starts lineEnd (drop j t) ≡ true → ds ≡ wordsAt t i
-  walk-all e =
-      let none : wordsAt t j ≡ [] = words-end t j (w .closed) e in
-      sym (w .words (ap (allNames folded) none ∙ names-nil folded) ∙ ap (λ (ws : List Bytes). ds ++ ws) none ∙ append-nil ds)
+    line-unword : lineAt t (unword fold t i) ≡ past blank (past (nameByte fold) (lineAt t i))
+    line-unword =
+        line-past t (pastAt (nameByte fold) t i) after-word blank blank-end ∙ ap (past blank) (line-past t i k (nameByte fold) end-name)
 
-  -- a name is passed
-  pub walk-on : (x : ℕ) → starts lineEnd (drop j t) ≡ false → isName folded (nameRun t j) ≡ true → x ≡ unword t j
-      → Walk t i x (ds ++ (nameRun t j ∷ []))
-  walk-on x e n q =
-      let tell : allNames folded (wordsAt t (unword t j)) ≡ allNames folded (wordsAt t j) = sound t j (w .closed) (w .trim) e n in
-      subst (λ (y : ℕ). Walk t i y (ds ++ (nameRun t j ∷ []))) (sym q)
-      (record {
-        closed = closed-unword t j (w .closed);
-        trim = trim-unword t j (w .closed);
-        ends = end-unword t j (w .closed) ∙ w .ends;
-        tells = tell ∙ w .tells;
-        words =
-            λ a.
-            w .words (sym tell ∙ a) ∙ ap (λ (ws : List Bytes). ds ++ ws) (words-cons t j (w .closed) (w .trim) e (sym tell ∙ a))
-            ∙ sym (append-assoc ds (nameRun t j ∷ []) (wordsAt t (unword t j)));
-      })
+    end-unword : pastAt notEnd t (unword fold t i) ≡ pastAt notEnd t i
+    end-unword =
+        end-past t (pastAt (nameByte fold) t i) after-word blank blank-end ∙ end-past t i k (nameByte fold) end-name
 
-  -- and less is left
-  pub walk-less : (x : ℕ) → isName folded (nameRun t j) ≡ true → x ≡ unword t j → length t - x < length t - j
-  walk-less x n q = subst (λ (y : ℕ). length t - y < length t - j) (sym q) (word-less t j (w .closed) n)
+    run-name : nameRun fold t i ≡ run (nameByte fold) (lineAt t i)
+    run-name = run-line t i k (nameByte fold) end-name
+
+    -- a name takes the place on, within the text
+    word-less : isName fold (nameRun fold t i) ≡ true → length t - unword fold t i < length t - i
+    word-less n =
+        omega (arith, name-long fold t i n, in-text t (pastAt (nameByte fold) t i) after-word blank blank-end)
+
+  -- From the head on.
+
+  -- a line with bytes
+  from-head : (s : Bytes) → (s ≡ [] → ⊥)
+      → fromHead fold s
+      ≡ pick (isName fold (run (nameByte fold) s)) (fromColon fold (run (nameByte fold) s) (past blank (past (nameByte fold) s))) (fault 5)
+  unfolding fromHead
+  from-head [] n = absurd (n refl)
+  from-head (b ∷ s) n = refl
+
+  -- a colon: the words behind it tell
+  with-colon : (h u : Bytes) → fromColon fold h (colon ∷ u) ≡ pick (allNames fold (wordsOf u)) (rule (spelling fold h (wordsOf u))) (fault 5)
+  unfolding fromColon
+  with-colon h u = refl
+
+  -- a rule by what it says
+  picked : (b : Bool) (x c : Clause) → pick b (rule x) (fault 5) ≡ rule c → (b ≡ true) × (x ≡ c)
+  unfolding pick
+  picked true x c e = (refl, cc)
+  picked false x c e = let z : _≡_ {A = ℕ} 0 1 = cc in absurd (omega arith)
+
+  -- a line whose head should stand at place i, before its end
+  module _ (t : Bytes) (i : ℕ) (k : Closed t i) (e : starts lineEnd (drop i t) ≡ false) where
+    not-empty : lineAt t i ≡ [] → ⊥
+    not-empty q = sees-more t i k e (λ b u p. let z : _≡_ {A = ℕ} 0 1 = cc in omega arith)
+
+    -- by its head
+    pub by-head : headAt fold t i ≡ pick (isName fold (nameRun fold t i)) (fromColon fold (nameRun fold t i) (past blank (past (nameByte fold) (lineAt t i)))) (fault 5)
+    by-head =
+        from-head (lineAt t i) not-empty
+        ∙ ap (λ (h : Bytes). pick (isName fold h) (fromColon fold h (past blank (past (nameByte fold) (lineAt t i)))) (fault 5)) (sym (run-name t i k))
+
+    -- no name there: no rule
+    pub headless : isName fold (nameRun fold t i) ≡ false → headAt fold t i ≡ fault 5
+    headless n = by-head ∙ pick-false _ (fault 5) n
+
+    -- the place behind the head and its blanks
+    module _ (mid : ℕ) (at : mid ≡ unword fold t i) where
+      mid-closed : Closed t mid
+      mid-closed = subst (Closed t) (sym at) (closed-unword t i k)
+
+      mid-line : lineAt t mid ≡ past blank (past (nameByte fold) (lineAt t i))
+      mid-line = ap (lineAt t) at ∙ line-unword t i k
+
+      mid-sees : starts colon (drop mid t) ≡ starts colon (past blank (past (nameByte fold) (lineAt t i)))
+      mid-sees = sees-line t mid mid-closed colon refl ∙ ap (starts colon) mid-line
+
+      -- no colon there
+      pub uncoloned : starts colon (drop mid t) ≡ false → headAt fold t i ≡ fault 5
+      uncoloned c =
+          by-head
+          ∙ either (isName fold (nameRun fold t i))
+          (λ n. pick-true _ (fault 5) n ∙ uncolon fold (nameRun fold t i) (past blank (past (nameByte fold) (lineAt t i))) (sym mid-sees ∙ c))
+          (λ n. pick-false _ (fault 5) n)
+
+      module _ (c : starts colon (drop mid t) ≡ true) where
+        seen : (u : Bytes) × (lineAt t mid ≡ colon ∷ u)
+        seen = starts-eq colon (lineAt t mid) (sym (sees-line t mid mid-closed colon refl) ∙ c)
+
+        -- the colon lies in the text, and the line goes on behind it
+        pub colon-in : mid < length t
+        colon-in = subst (λ (j : ℕ). j < length t) (sym at) (in-text t (pastAt (nameByte fold) t i) (after-word t i k) blank blank-end)
+
+        pub closed-body : Closed t (mid + 1)
+        closed-body = closed-next t mid mid-closed colon (seen .0) (seen .1)
+
+        -- to the same end
+        pub end-body : pastAt notEnd t (mid + 1) ≡ pastAt notEnd t i
+        end-body = end-next t mid mid-closed colon (seen .0) (seen .1) ∙ ap (pastAt notEnd t) at ∙ end-unword t i k
+
+        body-is : past blank (past (nameByte fold) (lineAt t i)) ≡ colon ∷ lineAt t (mid + 1)
+        body-is =
+            sym mid-line ∙ seen .1 ∙ ap (λ (x : Bytes). colon ∷ x) (sym (line-next t mid mid-closed colon (seen .0) (seen .1)))
+
+        -- a head and a colon: the words behind it tell
+        coloned : isName fold (nameRun fold t i) ≡ true
+            → headAt fold t i ≡ pick (allNames fold (wordsAt t (mid + 1))) (rule (spelling fold (nameRun fold t i) (wordsAt t (mid + 1)))) (fault 5)
+        coloned n =
+            by-head ∙ pick-true _ (fault 5) n ∙ ap (fromColon fold (nameRun fold t i)) body-is ∙ with-colon (nameRun fold t i) (lineAt t (mid + 1))
+
+        pub judged : isName fold (nameRun fold t i) ≡ true → pick (allNames fold (wordsAt t (mid + 1))) 0 5 ≡ faultOf (headAt fold t i)
+        unfolding faultOf
+        judged n =
+            either (allNames fold (wordsAt t (mid + 1)))
+            (λ q. pick-true 0 5 q ∙ sym (ap faultOf (coloned n ∙ pick-true _ (fault 5) q)))
+            (λ q. pick-false 0 5 q ∙ sym (ap faultOf (coloned n ∙ pick-false _ (fault 5) q)))
+
+        -- a rule says the clause that they spell
+        pub says : isName fold (nameRun fold t i) ≡ true → (d : Clause) → headAt fold t i ≡ rule d
+            → (allNames fold (wordsAt t (mid + 1)) ≡ true) × (spelling fold (nameRun fold t i) (wordsAt t (mid + 1)) ≡ d)
+        says n d q = picked (allNames fold (wordsAt t (mid + 1))) (spelling fold (nameRun fold t i) (wordsAt t (mid + 1))) d (sym (coloned n) ∙ q)
+
+  -- Words.
+
+  module _ (t : Bytes) (i : ℕ) (k : Closed t i) where
+    -- past the blanks it is
+    trim-unblank : Trim t (unblank t i)
+    trim-unblank =
+        ap (past blank) (line-unblank t i k) ∙ past-past blank (lineAt t i) ∙ sym (line-unblank t i k)
+
+    trim-unword : Trim t (unword fold t i)
+    trim-unword =
+        ap (past blank) (line-unword t i k) ∙ past-past blank (past (nameByte fold) (lineAt t i)) ∙ sym (line-unword t i k)
+
+    -- the words are those past the blanks
+    words-unblank : wordsAt t (unblank t i) ≡ wordsAt t i
+    words-unblank = ap wordsOf (line-unblank t i k) ∙ sym (words-past (lineAt t i))
+
+    -- at the line's end there are none
+    words-end : starts lineEnd (drop i t) ≡ true → wordsAt t i ≡ []
+    words-end e = ap wordsOf (sees-end t i k e) ∙ words-nil
+
+    module _ (trim : Trim t i) (e : starts lineEnd (drop i t) ≡ false) where
+      first : {X : Type 0} → ((b : ℕ) (u : Bytes) → past blank (lineAt t i) ≡ b ∷ u → X) → X
+      first g = sees-more t i k e (λ b u q. g b u (trim ∙ q))
+
+      same-run : nameRun fold t i ≡ run (nameByte fold) (past blank (lineAt t i))
+      same-run = run-name t i k ∙ ap (run (nameByte fold)) (sym trim)
+
+      words-on : wordsAt t (unword fold t i) ≡ wordsOf (past (nameByte fold) (past blank (lineAt t i)))
+      words-on =
+          ap wordsOf (line-unword t i k) ∙ sym (words-past (past (nameByte fold) (lineAt t i)))
+          ∙ ap (λ (x : Bytes). wordsOf (past (nameByte fold) x)) (sym trim)
+
+      -- no name there: the words are not all names
+      unsound : isName fold (nameRun fold t i) ≡ false → allNames fold (wordsAt t i) ≡ false
+      unsound n = first (λ b u q. words-fault fold law (lineAt t i) b u q (sym (ap (isName fold) same-run) ∙ n))
+
+      -- a name: they are where those behind it are
+      sound : isName fold (nameRun fold t i) ≡ true → allNames fold (wordsAt t (unword fold t i)) ≡ allNames fold (wordsAt t i)
+      sound n =
+          first
+          (λ b u q.
+          ap (allNames fold) words-on ∙ sym (words-sound fold law (lineAt t i) b u q (sym (ap (isName fold) same-run) ∙ n)))
+
+      -- and then they are that name and those behind it
+      words-cons : allNames fold (wordsAt t i) ≡ true → wordsAt t i ≡ nameRun fold t i ∷ wordsAt t (unword fold t i)
+      words-cons a =
+          first
+          (λ b u q.
+          words-more fold law (lineAt t i) b u q a
+          ∙ ap (λ (x : Bytes). x ∷ wordsOf (past (nameByte fold) (past blank (lineAt t i)))) (sym same-run)
+          ∙ ap (λ (ws : List Bytes). nameRun fold t i ∷ ws) (sym words-on))
+
+  -- the start, past the blanks at i
+  module _ (t : Bytes) (i j : ℕ) (k : Closed t i) (e : j ≡ unblank t i) where
+    pub walk-start : Walk fold t j j []
+    walk-start =
+        record {
+          closed = subst (Closed t) (sym e) (closed-unblank t i k);
+          trim = subst (Trim t) (sym e) (trim-unblank t i k);
+          ends = refl;
+          tells = refl;
+          words = λ a. refl;
+        }
+
+    -- the words and the end are those from i
+    pub same-words : wordsAt t j ≡ wordsAt t i
+    same-words = ap (wordsAt t) e ∙ words-unblank t i k
+
+    pub same-end : pastAt notEnd t j ≡ pastAt notEnd t i
+    same-end = ap (pastAt notEnd t) e ∙ end-unblank t i k
+
+  module _ (t : Bytes) (i j : ℕ) (ds : List Bytes) (w : Walk fold t i j ds) where
+    -- a word that is no name
+    pub walk-fault : starts lineEnd (drop j t) ≡ false → isName fold (nameRun fold t j) ≡ false → false ≡ allNames fold (wordsAt t i)
+    walk-fault e n = sym (unsound t j (w .closed) (w .trim) e n) ∙ w .tells
+
+    -- the line's end: each word was a name, and they are all passed
+    pub walk-sound : starts lineEnd (drop j t) ≡ true → true ≡ allNames fold (wordsAt t i)
+    walk-sound e = sym (ap (allNames fold) (words-end t j (w .closed) e) ∙ names-nil fold) ∙ w .tells
+
+    pub walk-end : starts lineEnd (drop j t) ≡ true → j ≡ pastAt notEnd t i
+    walk-end e = end-here t j (w .closed) e ∙ w .ends
+
+    pub walk-all : starts lineEnd (drop j t) ≡ true → ds ≡ wordsAt t i
+    walk-all e =
+        let none : wordsAt t j ≡ [] = words-end t j (w .closed) e in
+        sym (w .words (ap (allNames fold) none ∙ names-nil fold) ∙ ap (λ (ws : List Bytes). ds ++ ws) none ∙ append-nil ds)
+
+    -- a name is passed
+    pub walk-on : (x : ℕ) → starts lineEnd (drop j t) ≡ false → isName fold (nameRun fold t j) ≡ true → x ≡ unword fold t j
+        → Walk fold t i x (ds ++ (nameRun fold t j ∷ []))
+    walk-on x e n q =
+        let tell : allNames fold (wordsAt t (unword fold t j)) ≡ allNames fold (wordsAt t j) = sound t j (w .closed) (w .trim) e n in
+        subst (λ (y : ℕ). Walk fold t i y (ds ++ (nameRun fold t j ∷ []))) (sym q)
+        (record {
+          closed = closed-unword t j (w .closed);
+          trim = trim-unword t j (w .closed);
+          ends = end-unword t j (w .closed) ∙ w .ends;
+          tells = tell ∙ w .tells;
+          words =
+              λ a.
+              w .words (sym tell ∙ a) ∙ ap (λ (ws : List Bytes). ds ++ ws) (words-cons t j (w .closed) (w .trim) e (sym tell ∙ a))
+              ∙ sym (append-assoc ds (nameRun fold t j ∷ []) (wordsAt t (unword fold t j)));
+        })
+
+    -- and less is left
+    pub walk-less : (x : ℕ) → isName fold (nameRun fold t j) ≡ true → x ≡ unword fold t j → length t - x < length t - j
+    walk-less x n q = subst (λ (y : ℕ). length t - y < length t - j) (sym q) (word-less t j (w .closed) n)

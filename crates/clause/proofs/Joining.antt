@@ -3,28 +3,20 @@
 use mathlib.Core.Path.{_≡_, refl, sym, ap, _∙_, subst}
 use mathlib.Core.Bool.{Bool, true, false, _||_, or-assoc, or-false}
 use mathlib.Core.List.{List, [], _∷_, _++_}
-use Prim.Native.Nat.{ℕ, _*_, _≤_, _<_}
+use Prim.Native.Nat.{ℕ, _≤_, _<_}
 use native.Mathlib.Omega.{arith}
 use lib.Dec.{eqb, leb}
 use lib.ListN.{length}
 use borrow.Author.Tests.{leb-false, le-leb, lt-leb}
-use Rattle.limits.specs.Book.{names, rules, bodyWords, bodyArea}
+use Rattle.limits.specs.Book.{names, bodyWords}
 use Rattle.sets.specs.Set.{Set, only, union}
 use Rattle.sets.proofs.Logic.{either, clash}
 use Rattle.words.specs.Row.{row, part, pack, put}
 use Rattle.grammar.specs.Bytes.{Bytes}
 use Rattle.tables.specs.Numbering.{place, meet, meetAll, places}
-use Rattle.tables.specs.Areas.{namesIn}
-use Rattle.tables.proofs.Numbering.{place-le, place-new, meet-known, meet-new, by-place, meets-le, meets-keep, meets-met, meets-append, places-same}
-use Rattle.lexicon.proofs.Entering.{entered-meet, meet-fits, meet-over}
-use Rattle.clause.specs.Tables.{Kept, Named, Meeting, Joining, Onward, Ready}
-use Rattle.clause.proofs.Rows.{body-kept, body-more, holds-same}
-
--- a name keeps its number when it is met
-pub place-meet : (ns : List Bytes) (w : Bytes) → place (meet ns w) w ≡ place ns w
-place-meet ns w =
-    by-place ns w (λ l. ap (λ (ms : List Bytes). place ms w) (meet-known ns w l))
-    (λ q. ap (λ (ms : List Bytes). place ms w) (meet-new ns w q) ∙ place-new ns w q ∙ sym q)
+use Rattle.tables.proofs.Numbering.{meets-le, meets-keep, meets-met, meets-append, places-same}
+use Rattle.clause.specs.Found.{Kept, Lexicon, namesAt, Named, InOrder, Meeting, Joining, Onward}
+use Rattle.clause.proofs.Rows.{row-same, row-more}
 
 -- the numbers of two runs of names
 places-append : (ns xs ys : List Bytes) (a : ℕ) → places ns (xs ++ ys) a ≡ places ns xs a || places ns ys a
@@ -57,32 +49,29 @@ unfolding meetAll
 meets-one ns w = refl
 
 -- No name yet.
-join-none : (ns : List Bytes) (m n : ℕ) (area : Bytes) (first prior bodies : List ℕ) → Named ns n area first prior
-    → Joining ns [] m true n area first prior bodies bodies
-join-none ns m n area first prior bodies k =
+join-none : (ns : List Bytes) (x : Lexicon) (row : List ℕ) → Named ns x → Joining ns [] true x row row
+join-none ns x row k =
     record {
       fits = sym (le-leb (length (meetAll ns [])) names (omega (arith, k .few, k .count, ap length (meets-none ns))));
-      named = λ r. subst (λ (ms : List Bytes). Named ms n area first prior) (sym (meets-none ns)) k;
-      body = λ r f old h. holds-same m f (union f (places (meetAll ns []) [])) old bodies (places-none (meetAll ns []) f) h;
+      named = λ r. subst (λ (ms : List Bytes). Named ms x) (sym (meets-none ns)) k;
+      joins = λ r f e. row-same row f (union f (places (meetAll ns []) [])) (places-none (meetAll ns []) f) e;
     }
 
 -- More names, after ws.
-module _ (ns ws vs : List Bytes) (m : ℕ) where
+module _ (ns ws vs : List Bytes) where
   -- with room so far
-  join-more : (n₁ : ℕ) (area₁ : Bytes) (first₁ prior₁ bodies bodies₁ : List ℕ) → Joining ns ws m true n₁ area₁ first₁ prior₁ bodies bodies₁
-      → (room : Bool) (n₂ : ℕ) (area₂ : Bytes) (first₂ prior₂ bodies₂ : List ℕ)
-      → Joining (meetAll ns ws) vs m room n₂ area₂ first₂ prior₂ bodies₁ bodies₂
-      → Joining ns (ws ++ vs) m room n₂ area₂ first₂ prior₂ bodies bodies₂
-  join-more n₁ area₁ first₁ prior₁ bodies bodies₁ j room n₂ area₂ first₂ prior₂ bodies₂ k =
+  join-more : (x₁ : Lexicon) (row row₁ : List ℕ) → Joining ns ws true x₁ row row₁
+      → (room : Bool) (x₂ : Lexicon) (row₂ : List ℕ) → Joining (meetAll ns ws) vs room x₂ row₁ row₂ → Joining ns (ws ++ vs) room x₂ row row₂
+  join-more x₁ row row₁ j room x₂ row₂ k =
       let q : meetAll (meetAll ns ws) vs ≡ meetAll ns (ws ++ vs) = sym (meets-append ns ws vs) in
       record {
         fits = k .fits ∙ ap (λ (ms : List Bytes). leb (length ms) names) q;
-        named = λ r. subst (λ (ms : List Bytes). Named ms n₂ area₂ first₂ prior₂) q (k .named r);
-        body =
-            λ r f old h.
-            holds-same m (union (union f (places (meetAll ns ws) ws)) (places (meetAll (meetAll ns ws) vs) vs))
-            (union f (places (meetAll ns (ws ++ vs)) (ws ++ vs))) old bodies₂ (together f)
-            (k .body r (union f (places (meetAll ns ws) ws)) old (j .body refl f old h));
+        named = λ r. subst (λ (ms : List Bytes). Named ms x₂) q (k .named r);
+        joins =
+            λ r f e.
+            row-same row₂ (union (union f (places (meetAll ns ws) ws)) (places (meetAll (meetAll ns ws) vs) vs))
+            (union f (places (meetAll ns (ws ++ vs)) (ws ++ vs))) (together f)
+            (k .joins r (union f (places (meetAll ns ws) ws)) (j .joins refl f e));
       }
     where
       together : (f : Set) (a : ℕ)
@@ -95,139 +84,92 @@ module _ (ns ws vs : List Bytes) (m : ℕ) where
           ∙ ap (λ (b : Bool). f a || b) (sym (places-append (meetAll ns (ws ++ vs)) ws vs a))
 
   -- once room is lost
-  join-lost : (n₁ : ℕ) (area₁ : Bytes) (first₁ prior₁ bodies bodies₁ : List ℕ) → Joining ns ws m false n₁ area₁ first₁ prior₁ bodies bodies₁
-      → (n₂ : ℕ) (area₂ : Bytes) (first₂ prior₂ bodies₂ : List ℕ) → Joining ns (ws ++ vs) m false n₂ area₂ first₂ prior₂ bodies bodies₂
-  join-lost n₁ area₁ first₁ prior₁ bodies bodies₁ j n₂ area₂ first₂ prior₂ bodies₂ =
+  join-lost : (x₁ : Lexicon) (row row₁ : List ℕ) → Joining ns ws false x₁ row row₁
+      → (x₂ : Lexicon) (row₂ : List ℕ) → Joining ns (ws ++ vs) false x₂ row row₂
+  join-lost x₁ row row₁ j x₂ row₂ =
       let l : names < length (meetAll ns ws) = leb-false (length (meetAll ns ws)) names (sym (j .fits)) in
       record {
         fits =
             sym (lt-leb (length (meetAll ns (ws ++ vs))) names
             (omega (arith, meets-le (meetAll ns ws) vs, ap length (meets-append ns ws vs))));
         named = λ r. clash r refl;
-        body = λ r. clash r refl;
+        joins = λ r. clash r refl;
       }
 
 -- The first of them.
-pub onward-start : (room : Bool) (n m : ℕ) (area : Bytes) (first prior bodies : List ℕ) → Ready room n m area first prior bodies
-    → Onward room (namesIn area n) [] m room n area first prior bodies bodies
-onward-start room n m area first prior bodies k =
+pub onward-start : (room : Bool) (x : Lexicon) (row : List ℕ) → (room ≡ true → InOrder x) → Onward room (namesAt x) [] room x row row
+onward-start room x row k =
     record {
       lost = λ e. e;
-      joins =
-          λ e.
-          subst (λ (r : Bool). Joining (namesIn area n) [] m r n area first prior bodies bodies) (sym e)
-          (join-none (namesIn area n) m n area first prior bodies (k .named e));
+      joins = λ e. subst (λ (r : Bool). Joining (namesAt x) [] r x row row) (sym e) (join-none (namesAt x) x row (k e));
     }
 
 -- After ws there is room or none.
-module _ (r₀ : Bool) (ns ws : List Bytes) (m : ℕ) (r₁ : Bool) (n₁ : ℕ) (area₁ : Bytes) (first₁ prior₁ bodies bodies₁ : List ℕ)
-    (k : Onward r₀ ns ws m r₁ n₁ area₁ first₁ prior₁ bodies bodies₁) where
+module _ (r₀ : Bool) (ns ws : List Bytes) (r₁ : Bool) (x₁ : Lexicon) (row row₁ : List ℕ) (k : Onward r₀ ns ws r₁ x₁ row row₁) where
   opened : r₁ ≡ true → r₀ ≡ true
   opened e = either r₀ (λ q. q) (λ q. clash e (k .lost q))
 
-  named-now : (e : r₁ ≡ true) → Named (meetAll ns ws) n₁ area₁ first₁ prior₁
+  named-now : (e : r₁ ≡ true) → Named (meetAll ns ws) x₁
   named-now e = k .joins (opened e) .named e
 
   -- what the next name needs
-  pub onward-ready : (n : ℕ) (area : Bytes) (first prior : List ℕ) → Ready r₀ n m area first prior bodies → Kept bodyArea bodies bodies₁
-      → Ready r₁ n₁ m area₁ first₁ prior₁ bodies₁
-  onward-ready n area first prior d z =
-      record {
-        named = λ e. subst (λ (ms : List Bytes). Named ms n₁ area₁ first₁ prior₁) (sym (named-now e .there)) (named-now e);
-        below = λ e. d .below (opened e);
-        long = omega (arith, d .long, z .as-long);
-      }
+  pub onward-ready : r₁ ≡ true → InOrder x₁
+  onward-ready e = subst (λ (ms : List Bytes). Named ms x₁) (sym (named-now e .there)) (named-now e)
 
   -- and what it leaves
-  pub onward-more : (vs : List Bytes) (r₂ : Bool) (n₂ : ℕ) (area₂ : Bytes) (first₂ prior₂ bodies₂ : List ℕ)
-      → Onward r₁ (namesIn area₁ n₁) vs m r₂ n₂ area₂ first₂ prior₂ bodies₁ bodies₂
-      → Onward r₀ ns (ws ++ vs) m r₂ n₂ area₂ first₂ prior₂ bodies bodies₂
-  onward-more vs r₂ n₂ area₂ first₂ prior₂ bodies₂ d =
+  pub onward-more : (vs : List Bytes) (r₂ : Bool) (x₂ : Lexicon) (row₂ : List ℕ) → Onward r₁ (namesAt x₁) vs r₂ x₂ row₁ row₂
+      → Onward r₀ ns (ws ++ vs) r₂ x₂ row row₂
+  onward-more vs r₂ x₂ row₂ d =
       record {
         lost = λ e. d .lost (k .lost e);
         joins =
             λ e.
             either r₁
             (λ o.
-            join-more ns ws vs m n₁ area₁ first₁ prior₁ bodies bodies₁
-            (subst (λ (r : Bool). Joining ns ws m r n₁ area₁ first₁ prior₁ bodies bodies₁) o (k .joins e)) r₂ n₂ area₂ first₂ prior₂ bodies₂
-            (subst (λ (ms : List Bytes). Joining ms vs m r₂ n₂ area₂ first₂ prior₂ bodies₁ bodies₂) (named-now o .there) (d .joins o)))
+            join-more ns ws vs x₁ row row₁ (subst (λ (r : Bool). Joining ns ws r x₁ row row₁) o (k .joins e)) r₂ x₂ row₂
+            (subst (λ (ms : List Bytes). Joining ms vs r₂ x₂ row₁ row₂) (named-now o .there) (d .joins o)))
             (λ o.
-            subst (λ (r : Bool). Joining ns (ws ++ vs) m r n₂ area₂ first₂ prior₂ bodies bodies₂) (sym (d .lost o))
-            (join-lost ns ws vs m n₁ area₁ first₁ prior₁ bodies bodies₁
-            (subst (λ (r : Bool). Joining ns ws m r n₁ area₁ first₁ prior₁ bodies bodies₁) o (k .joins e)) n₂ area₂ first₂ prior₂ bodies₂));
+            subst (λ (r : Bool). Joining ns (ws ++ vs) r x₂ row row₂) (sym (d .lost o))
+            (join-lost ns ws vs x₁ row row₁ (subst (λ (r : Bool). Joining ns ws r x₁ row row₁) o (k .joins e)) x₂ row₂));
       }
-
--- a row that members join, at a place that is known
-moved : (m at : ℕ) (bodies bodies′ : List ℕ) (g : Set) → at ≡ m * bodyWords
-    → bodies′ ≡ put at (pack bodyWords (union (row (part at bodyWords bodies)) g)) bodies
-    → bodies′ ≡ put (m * bodyWords) (pack bodyWords (union (row (part (m * bodyWords) bodyWords bodies)) g)) bodies
-moved m at bodies bodies′ g p q =
-    subst (λ (i : ℕ). bodies′ ≡ put i (pack bodyWords (union (row (part i bodyWords bodies)) g)) bodies) p q
-
--- leaves what lies past the bodies
-pub joined-kept : (m at a : ℕ) (bodies bodies′ : List ℕ) → m < rules → bodyArea ≤ length bodies → at ≡ m * bodyWords
-    → bodies′ ≡ put at (pack bodyWords (union (row (part at bodyWords bodies)) (only a))) bodies → Kept bodyArea bodies bodies′
-joined-kept m at a bodies bodies′ l w p q =
-    body-kept m l (union (row (part (m * bodyWords) bodyWords bodies)) (only a)) bodies bodies′ w (moved m at bodies bodies′ (only a) p q)
-
--- One name met.
-module _ (ns : List Bytes) (w : Bytes) (n number n′ : ℕ) (area area′ : Bytes) (first prior first′ prior′ : List ℕ)
-    (few : Named ns n area first prior) (met : Meeting ns w number n′ area area′ first′ prior′) where
-  -- its number is below 128, or there is no room for it
-  pub low : (number ≡ names → ⊥) → number < names
-  low e = omega (arith, e, place-le ns w, met .is, few .few, few .count)
-
-  -- room
-  pub fitting : (number ≡ names → ⊥) → length (meet ns w) ≤ names
-  fitting e = meet-fits ns w (omega (arith, few .few, few .count)) (omega (arith, low e, met .is))
-
-  pub named-met : (number ≡ names → ⊥) → Named (meet ns w) n′ area′ first′ prior′
-  named-met e = subst (λ (ms : List Bytes). Named ms n′ area′ first′ prior′) (entered-meet ns w (fitting e)) (met .named)
-
-  -- none
-  pub crowded : number ≡ names → names < length (meet ns w)
-  crowded e = meet-over ns w (omega (arith, few .few, few .count)) (omega (arith, met .is))
-
-  -- it joins body m
-  join-one : (m : ℕ) (bodies bodies′ : List ℕ) → m < rules → (number ≡ names → ⊥)
-      → bodies′ ≡ put (m * bodyWords) (pack bodyWords (union (row (part (m * bodyWords) bodyWords bodies)) (only number))) bodies
-      → Joining ns (w ∷ []) m true n′ area′ first′ prior′ bodies bodies′
-  join-one m bodies bodies′ l e q =
-      record {
-        fits = sym (le-leb (length (meetAll ns (w ∷ []))) names (omega (arith, fitting e, ap length (meets-one ns w))));
-        named = λ r. subst (λ (ms : List Bytes). Named ms n′ area′ first′ prior′) (sym (meets-one ns w)) (named-met e);
-        body =
-            λ r f old h.
-            holds-same m (union f (only number)) (union f (places (meetAll ns (w ∷ [])) (w ∷ []))) old bodies′ (same f)
-            (body-more m l f (only number) old bodies bodies′ h q);
-      }
-    where
-      same : (f : Set) (a : ℕ) → union f (only number) a ≡ union f (places (meetAll ns (w ∷ [])) (w ∷ [])) a
-      same f a =
-          ap (λ (k : ℕ). f a || only k a) (met .is ∙ sym (place-meet ns w) ∙ ap (λ (ms : List Bytes). place ms w) (sym (meets-one ns w)))
-          ∙ ap (λ (b : Bool). f a || b) (sym (places-one (meetAll ns (w ∷ [])) w a))
-
-  -- it does not
-  join-full : (m : ℕ) (bodies : List ℕ) → number ≡ names → Joining ns (w ∷ []) m false n area′ first′ prior′ bodies bodies
-  join-full m bodies e =
-      record {
-        fits = sym (lt-leb (length (meetAll ns (w ∷ []))) names (omega (arith, crowded e, ap length (meets-one ns w))));
-        named = λ r. clash r refl;
-        body = λ r. clash r refl;
-      }
-
-  pub onward-one : (before : Bool) (m at : ℕ) (bodies bodies′ : List ℕ) → before ≡ true → m < rules → (number ≡ names → ⊥)
-      → at ≡ m * bodyWords → bodies′ ≡ put at (pack bodyWords (union (row (part at bodyWords bodies)) (only number))) bodies
-      → Onward before ns (w ∷ []) m true n′ area′ first′ prior′ bodies bodies′
-  onward-one before m at bodies bodies′ b l e p q =
-      record { lost = λ c. clash b c; joins = λ c. join-one m bodies bodies′ l e (moved m at bodies bodies′ (only number) p q) }
-
-  pub onward-full : (before : Bool) (m : ℕ) (bodies : List ℕ) → number ≡ names
-      → Onward before ns (w ∷ []) m false n area′ first′ prior′ bodies bodies
-  onward-full before m bodies e = record { lost = λ c. refl; joins = λ c. join-full m bodies e }
 
 -- no room before: none after
-pub onward-shut : (before : Bool) (ns ws : List Bytes) (m n : ℕ) (area : Bytes) (first prior bodies : List ℕ) → before ≡ false
-    → Onward before ns ws m false n area first prior bodies bodies
-onward-shut before ns ws m n area first prior bodies e = record { lost = λ c. refl; joins = λ c. clash c e }
+pub onward-shut : (before : Bool) (ns ws : List Bytes) (x : Lexicon) (row : List ℕ) → before ≡ false → Onward before ns ws false x row row
+onward-shut before ns ws x row e = record { lost = λ c. refl; joins = λ c. clash c e }
+
+-- One name met.
+module _ (before : Bool) (w : Bytes) (room : Bool) (number : ℕ) (x x′ : Lexicon) (k : InOrder x) (met : Meeting w room number x x′) where
+  -- it joins the row
+  pub onward-one : before ≡ true → room ≡ true → (old new : List ℕ)
+      → new ≡ put 0 (pack bodyWords (union (row (part 0 bodyWords old)) (only number))) old → Onward before (namesAt x) (w ∷ []) true x′ old new
+  onward-one b e old new q =
+      let ns : List Bytes = namesAt x in
+      record {
+        lost = λ c. clash b c;
+        joins =
+            λ c. record {
+              fits = sym e ∙ met .fits ∙ ap (λ (ms : List Bytes). leb (length ms) names) (sym (meets-one ns w));
+              named = λ r. subst (λ (ms : List Bytes). Named ms x′) (sym (meets-one ns w)) (met .named e);
+              joins =
+                  λ r f p.
+                  row-same new (union f (only number)) (union f (places (meetAll ns (w ∷ [])) (w ∷ []))) (same f) (row-more old new f number p q);
+            };
+      }
+    where
+      same : (f : Set) (a : ℕ) → union f (only number) a ≡ union f (places (meetAll (namesAt x) (w ∷ [])) (w ∷ [])) a
+      same f a =
+          ap (λ (j : ℕ). f a || only j a) (met .number-is e ∙ ap (λ (ms : List Bytes). place ms w) (sym (meets-one (namesAt x) w)))
+          ∙ ap (λ (b : Bool). f a || b) (sym (places-one (meetAll (namesAt x) (w ∷ [])) w a))
+
+  -- it does not
+  pub onward-full : room ≡ false → (y : Lexicon) (row : List ℕ) → Onward before (namesAt x) (w ∷ []) false y row row
+  onward-full e y row =
+      record {
+        lost = λ c. refl;
+        joins =
+            λ c. record {
+              fits = sym e ∙ met .fits ∙ ap (λ (ms : List Bytes). leb (length ms) names) (sym (meets-one (namesAt x) w));
+              named = λ r. clash r refl;
+              joins = λ r. clash r refl;
+            };
+      }

@@ -3,6 +3,5 @@ pub mod Forms
 pub mod Rows
 pub mod Meeting
 pub mod Joining
-pub mod Heading
 pub mod Passing
 pub mod Saying

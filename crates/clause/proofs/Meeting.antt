@@ -1,6 +1,6 @@
--- A name met: what entering it needs, and what it leaves.
+-- A name met: what finding and adding it need, and what it leaves.
 -- Assumes nothing.
-use mathlib.Core.Path.{_≡_, sym, ap, ap₂, _∙_, subst, subst₂}
+use mathlib.Core.Path.{_≡_, refl, sym, ap, ap₂, _∙_, subst, subst₂}
 use mathlib.Core.Bool.{true, false}
 use mathlib.Core.Logic.{_⊎_, inl, inr, ⊎-elim}
 use mathlib.Core.List.{List, [], _∷_, _++_, map}
@@ -9,23 +9,25 @@ use native.Mathlib.Omega.{arith}
 use lib.Dec.{eqb}
 use lib.ListN.{length, getD, take, drop, set, length-append, length-drop}
 use lib.Seq.{drop-append-seam}
-use borrow.Author.Tests.{eqb-true}
+use borrow.Author.Tests.{eqb-true, eq-eqb, le-leb, lt-leb}
 use Rattle.limits.specs.Book.{names, nameBytes, nameArea}
-use Rattle.sets.proofs.Logic.{pick-true, pick-false}
+use Rattle.sets.proofs.Logic.{clash, pick-true, pick-false}
 use Rattle.words.specs.Row.{put}
-use Rattle.grammar.specs.Bytes.{Bytes, nameByte, folded}
+use Rattle.grammar.specs.Bytes.{Bytes, Folding, nameByte}
 use Rattle.grammar.specs.Lines.{span, isName}
 use Rattle.grammar.proofs.Spans.{span-le}
 use Rattle.scan.specs.Hash.{hashOf}
-use Rattle.tables.specs.Numbering.{place}
+use Rattle.scan.specs.Places.{nameFolded}
+use Rattle.tables.specs.Numbering.{place, meet}
 use Rattle.tables.specs.Areas.{padded, nameRows, namesIn}
 use Rattle.tables.specs.Begun.{begun}
-use Rattle.tables.proofs.Numbering.{place-le}
+use Rattle.tables.proofs.Numbering.{place-le, place-new, meet-known, meet-new, by-place}
 use Rattle.lexicon.specs.Index.{Indexed, NameAt, wordAt, settled, entered, enteredArea}
 use Rattle.lexicon.proofs.Entering.{settled-name, settled-full, settled-new, kept-area, kept-index, new-area, new-index, entered-length, entered-past, entered-names, entered-begun, entered-fine}
+use Rattle.lexicon.proofs.Entering.{entered-meet, meet-fits, meet-over}
 use Rattle.lexicon.proofs.Spelling.{word-fine}
 use Rattle.clause.proofs.Forms.{name-long}
-use Rattle.clause.specs.Tables.{NameHere, Kept, Named, Meeting, nameFolded}
+use Rattle.clause.specs.Found.{NameHere, Kept, Lexicon, lexiconOf, namesAt, Named, InOrder, Meeting}
 
 -- how many names there are then
 module _ (ns : List Bytes) (w : Bytes) where
@@ -42,83 +44,105 @@ pub begun-again : (xs old : List ℕ) → begun xs (begun xs old) ≡ begun xs o
 unfolding begun
 begun-again xs old = ap (λ (r : List ℕ). xs ++ r) (drop-append-seam xs (drop (length xs) old))
 
+-- a name keeps its number when it is met
+pub place-meet : (ns : List Bytes) (w : Bytes) → place (meet ns w) w ≡ place ns w
+place-meet ns w =
+    by-place ns w (λ l. ap (λ (ms : List Bytes). place ms w) (meet-known ns w l))
+    (λ q. ap (λ (ms : List Bytes). place ms w) (meet-new ns w q) ∙ place-new ns w q ∙ sym q)
+
 -- the name at place i, in bytes from i to end
-module _ (t : Bytes) (i end bucket : ℕ) (h : NameHere t i end bucket) where
-  run-length : end - i ≡ span (nameByte folded) (drop i t)
+module _ (fold : ℕ → ℕ) (law : Folding fold) (t : Bytes) (i end bucket : ℕ) (h : NameHere fold t i end bucket) where
+  run-length : end - i ≡ span (nameByte fold) (drop i t)
   run-length = omega (arith, h .ends)
 
-  word-is : wordAt t i (end - i) ≡ nameFolded t i
-  word-is = ap (λ (n : ℕ). map folded (take n (drop i t))) run-length
+  word-is : wordAt fold t i (end - i) ≡ nameFolded fold t i
+  word-is = ap (λ (n : ℕ). map fold (take n (drop i t))) run-length
 
-  stands : NameAt t i (end - i)
+  stands : NameAt fold t i (end - i)
   stands = (
-    omega (arith, run-length, span-le (nameByte folded) (drop i t), length-drop i t, name-long t i (h .good)),
-    ap (λ (n : ℕ). isName folded (take n (drop i t))) run-length ∙ h .good,
+    omega (arith, run-length, span-le (nameByte fold) (drop i t), length-drop i t, name-long fold t i (h .good)),
+    ap (λ (n : ℕ). isName fold (take n (drop i t))) run-length ∙ h .good,
   )
 
-  -- among the first n names of an area
-  module _ (n : ℕ) (area : Bytes) (first prior : List ℕ) (k : Named (namesIn area n) n area first prior) where
-    -- what finding or entering it needs
-    pub ready : ((n ≤ names) × (nameArea ≤ length area) × NameAt t i (end - i))
-        × (Indexed (namesIn area n) first prior × (bucket ≡ hashOf (wordAt t i (end - i))))
+  -- among the names of a lexicon
+  module _ (x : Lexicon) (k : InOrder x) where
+    -- what finding or adding it needs
+    pub ready : ((x .count ≤ names) × (nameArea ≤ length (x .area)) × NameAt fold t i (end - i))
+        × (Indexed (namesAt x) (x .first) (x .prior) × (bucket ≡ hashOf (wordAt fold t i (end - i))))
     ready = ((k .few, k .long, stands), (k .index, h .hashed ∙ ap hashOf (sym word-is)))
 
     abbrev ns : List Bytes
-    ns = namesIn area n
+    ns = namesAt x
 
     abbrev w : Bytes
-    w = wordAt t i (end - i)
+    w = wordAt fold t i (end - i)
 
-    -- and leaves
-    module _ (number : ℕ) (area′ : Bytes) (first′ prior′ : List ℕ) (p : number ≡ place ns w) (q : area′ ≡ enteredArea ns w area)
-        (x : Indexed (entered ns w) first′ prior′) where
-      named : (n′ : ℕ) → n′ ≡ length (entered ns w) → n′ ≤ names → Named (entered ns w) n′ area′ first′ prior′
-      named n′ c l =
-          let b : area′ ≡ begun (nameRows (entered ns w)) area =
-          q ∙ ap (enteredArea ns w) (k .rows) ∙ entered-begun ns w area (λ a l. k .fine a l .0) in
+    -- the names with it, where there is room
+    module _ (y : Lexicon) (q : y .area ≡ enteredArea ns w (x .area)) (d : Indexed (entered ns w) (y .first) (y .prior)) where
+      named-entered : y .count ≡ length (entered ns w) → y .count ≤ names → Named (entered ns w) y
+      named-entered c l =
+          let b : y .area ≡ begun (nameRows (entered ns w)) (x .area) =
+          q ∙ ap (enteredArea ns w) (k .rows) ∙ entered-begun ns w (x .area) (λ a l. k .fine a l .0) in
           record {
             count = c;
             few = l;
-            long = omega (arith, k .long, ap length q, entered-length ns w area (word-fine t i (end - i) stands) (k .long));
-            fine = entered-fine ns w (k .fine) (word-fine t i (end - i) stands);
-            rows = b ∙ sym (begun-again (nameRows (entered ns w)) area) ∙ ap (begun (nameRows (entered ns w))) (sym b);
-            there = ap₂ namesIn q c ∙ entered-names area w n (k .long) (word-fine t i (end - i) stands);
-            index = x;
+            long = omega (arith, k .long, ap length q, entered-length ns w (x .area) (word-fine fold law t i (end - i) stands) (k .long));
+            fine = entered-fine ns w (k .fine) (word-fine fold law t i (end - i) stands);
+            rows = b ∙ sym (begun-again (nameRows (entered ns w)) (x .area)) ∙ ap (begun (nameRows (entered ns w))) (sym b);
+            there = ap₂ namesIn q c ∙ entered-names (x .area) w (x .count) (k .long) (word-fine fold law t i (end - i) stands);
+            index = d;
           }
 
-      kept : Kept nameArea area area′
-      kept =
+      kept-entered : Kept nameArea (x .area) (y .area)
+      kept-entered =
           record {
-            as-long = ap length q ∙ entered-length ns w area (word-fine t i (end - i) stands) (k .long);
-            past = ap (drop nameArea) q ∙ entered-past ns w area (word-fine t i (end - i) stands) (k .long);
+            as-long = ap length q ∙ entered-length ns w (x .area) (word-fine fold law t i (end - i) stands) (k .long);
+            past = ap (drop nameArea) q ∙ entered-past ns w (x .area) (word-fine fold law t i (end - i) stands) (k .long);
           }
 
-      meeting : (n′ : ℕ) → n′ ≡ length (entered ns w) → n′ ≤ names → Meeting ns (nameFolded t i) number n′ area area′ first′ prior′
-      meeting n′ c l =
-          subst (λ (v : Bytes). Meeting ns v number n′ area area′ first′ prior′) word-is
-          (record { is = p; named = named n′ c l; kept = kept })
+      -- there is room: so it is met
+      with-room : (number : ℕ) → number ≡ place ns w → number < names → y .count ≡ length (entered ns w) → y .count ≤ names
+          → Meeting (nameFolded fold t i) true number x y
+      with-room number p l c f =
+          let fits : length (meet ns w) ≤ names = meet-fits ns w (omega (arith, k .few, k .count)) (omega arith) in
+          subst (λ (v : Bytes). Meeting v true number x y) word-is
+          (record {
+            fits = sym (le-leb (length (meet ns w)) names fits);
+            number-is = λ r. p ∙ sym (place-meet ns w);
+            named = λ r. subst (λ (ms : List Bytes). Named ms y) (entered-meet ns w fits) (named-entered c f);
+            kept = kept-entered;
+          })
 
-    -- a number that is none of theirs is the next
-    pub next-number : (number : ℕ) → number ≡ place ns w → n ≤ number → n ≡ place ns w
-    next-number number p l = omega (arith, p, place-le ns w, k .count)
+    -- a known name: nothing changes
+    pub met-known : (number : ℕ) → number ≡ place ns w → number < x .count → Meeting (nameFolded fold t i) true number x x
+    met-known number p l =
+        let o : (number < x .count) ⊎ (eqb (x .count) names ≡ true) = inl l in
+        with-room x (kept-area (x .area) w (x .count) number (x .first) (x .prior) (k .index) p o)
+        (kept-index (x .area) w (x .count) number (x .first) (x .prior) (k .index) p o) number p (omega (arith, k .few))
+        (k .count ∙ sym (same-count ns w (settled-name ns w (omega (arith, p, k .count))))) (k .few)
 
-    -- it is known, or there is no room: nothing changes
-    pub met-kept : (number : ℕ) → number ≡ place ns w → (number < n) ⊎ (eqb n names ≡ true) → Meeting ns (nameFolded t i) number n area area first prior
-    met-kept number p o =
-        let c : n ≡ length ns = k .count in
-        let g : (place ns w < length ns) ⊎ (names ≤ length ns) =
-        ⊎-elim (λ (l : number < n). inl (omega (arith, p))) (λ (q : eqb n names ≡ true). inr (omega (arith, eqb-true n names q))) o
-        in
-        meeting number area first prior p (kept-area area w n number first prior (k .index) p o) (kept-index area w n number first prior (k .index) p o) n
-        (c ∙ sym (same-count ns w (⊎-elim (settled-name ns w) (settled-full ns w) g))) (k .few)
+    -- no room: nothing changes
+    pub met-full : (number : ℕ) → number ≡ place ns w → x .count ≤ number → x .count ≡ names → Meeting (nameFolded fold t i) false number x x
+    met-full number p l e =
+        subst (λ (v : Bytes). Meeting v false number x x) word-is
+        (record {
+          fits = sym (lt-leb (length (meet ns w)) names (meet-over ns w (omega (arith, k .few, k .count)) (omega (arith, p))));
+          number-is = λ r. clash r refl;
+          named = λ r. clash r refl;
+          kept = record { as-long = refl; past = refl };
+        })
 
-    -- it is new: it has the next row, and leads its bucket
-    pub met-new : (number : ℕ) → number ≡ place ns w → n ≤ number → n < names → (area′ : Bytes) (first′ prior′ : List ℕ)
-        → area′ ≡ put (n * nameBytes) (padded w) area → first′ ≡ set first bucket (n + 1) → prior′ ≡ set prior n (getD first bucket 0)
-        → Meeting ns (nameFolded t i) number (n + 1) area area′ first′ prior′
+    -- a new name: it has the next row, and leads its bucket
+    pub met-new : (number : ℕ) → number ≡ place ns w → x .count ≤ number → (x .count ≡ names → ⊥) → (area′ : Bytes) (first′ prior′ : List ℕ)
+        → area′ ≡ put (x .count * nameBytes) (padded w) (x .area) → first′ ≡ set (x .first) bucket (x .count + 1)
+        → prior′ ≡ set (x .prior) (x .count) (getD (x .first) bucket 0)
+        → Meeting (nameFolded fold t i) true (x .count) x (lexiconOf (x .count + 1) area′ first′ prior′)
     met-new number p l m area′ first′ prior′ a f b =
-        let c : n ≡ length ns = k .count in
-        let s : settled ns w ≡ false = settled-new ns w (omega (arith, p)) (omega arith) in
-        meeting number area′ first′ prior′ p (new-area area w n number first prior (k .index) p l m area′ a)
-        (subst₂ (Indexed (entered ns w)) (sym f) (sym b) (new-index area w n number first prior (k .index) p l m bucket (ready .1 .1)))
-        (n + 1) (omega (arith, more-count ns w s)) (omega arith)
+        let lt : x .count < names = omega (arith, k .few, m) in
+        let s : settled ns w ≡ false = settled-new ns w (omega (arith, p, k .count)) (omega (arith, k .count)) in
+        let next : x .count ≡ place ns w = omega (arith, p, place-le ns w, k .count) in
+        with-room (lexiconOf (x .count + 1) area′ first′ prior′)
+        (new-area (x .area) w (x .count) number (x .first) (x .prior) (k .index) p l lt area′ a)
+        (subst₂ (Indexed (entered ns w)) (sym f) (sym b)
+        (new-index (x .area) w (x .count) number (x .first) (x .prior) (k .index) p l lt bucket (ready .1 .1)))
+        (x .count) next lt (omega (arith, more-count ns w s, k .count)) (omega arith)

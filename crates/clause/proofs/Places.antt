@@ -15,7 +15,8 @@ use Rattle.grammar.specs.Lines.{span, run, past, starts}
 use Rattle.grammar.proofs.Spans.{span-le, run-before, past-before, span-end, past-line, all-tail}
 use Rattle.grammar.proofs.Words.{starts-before}
 use Rattle.grammar.proofs.Bodies.{split}
-use Rattle.clause.specs.Line.{Begins, Closed, lineAt, pastAt}
+use Rattle.scan.specs.Places.{pastAt}
+use Rattle.clause.specs.Line.{Begins, Closed, lineAt}
 
 -- a first byte is the one that is seen
 pub starts-eq : (x : ℕ) (r : Bytes) → starts x r ≡ true → (u : Bytes) × (r ≡ x ∷ u)

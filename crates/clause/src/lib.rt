@@ -1,28 +1,27 @@
-// The rule that a line says, judged and entered into the tables in one pass over its bytes.
+// The rule that a line says, found in one pass over its bytes and handed back as a value.
 use lexicon::add;
 use lexicon::find;
 use limits::Book;
-use rows::clear::clear_tail64;
+use limits::Refusal;
 use rows::write::insert;
 use scan::cursor::Cursor;
 use scan::cursor::Word;
 ghost use mathlib.Core.Path.{_≡_};
-ghost use mathlib.Core.Bool.{false};
+ghost use mathlib.Core.Bool.{true, false};
 ghost use mathlib.Core.List.{[], _∷_};
-ghost use Prim.Native.Nat.{_≤_};
-ghost use lib.ListN.{length, drop};
-ghost use Rattle.limits.specs.Book.{rules, nameArea, bodyArea};
-ghost use Rattle.grammar.specs.Bytes.{lineEnd, Bytes, nameByte, folded};
+ghost use Prim.Native.Nat.{ℕ};
+ghost use lib.ListN.{length, drop, replicate};
+ghost use Rattle.limits.specs.Book.{bodyWords, nameArea};
+ghost use Rattle.grammar.specs.Bytes.{lineEnd, Bytes, nameByte, letters};
 ghost use Rattle.grammar.specs.Lines.{starts, isName};
 ghost use Rattle.scan.specs.Fold.{FoldTable};
-ghost use Rattle.tables.specs.Areas.{namesIn};
+ghost use Rattle.scan.specs.Places.{pastAt, nameRun, nameFolded};
 ghost use Rattle.clause.specs.Line.{Closed};
-ghost use Rattle.clause.specs.Tables.{NameHere, Kept, Named, Meeting, Ready, Onward, Headed, Bodied, Said, nameFolded};
-ghost use Rattle.clause.specs.Line.{pastAt, nameRun};
+ghost use Rattle.clause.specs.Found.{NameHere, Kept, lexiconOf, namesAt, InOrder, Meeting, Onward, Bodied, Said};
 
-// Whether the run of name bytes from place `at` is a name: 1 to 32 bytes of any text that has it there.
+// Whether the run of name bytes from place `at` is a name: 1 to 32 bytes of any text that has it there, under any letters.
 fn is_name(at: usize, word: Word) -> bool
-    ensures { λ r. ⌜ ((t : Bytes) → word .end ≡ pastAt (nameByte folded) t at → r ≡ isName folded (nameRun t at)) ⌝ }
+    ensures { λ r. ⌜ ((fold : ℕ → ℕ) (t : Bytes) → word .end ≡ pastAt (nameByte fold) t at → r ≡ isName fold (nameRun fold t at)) ⌝ }
 {
     let end = word.end;
     if end <= at {
@@ -31,13 +30,14 @@ fn is_name(at: usize, word: Word) -> bool
     end - at <= Book::NAME_BYTES
 }
 
-// A name's number, and how many names there are then.
+// A name's number where there is room for it, and how many names there are then.
 struct Met {
+    pub room: bool,
     pub number: usize,
     pub names: usize,
 }
 
-// The name from place `at` joins the first n names, where it is new and there is room. Number Book::NAMES means that there is none.
+// The name from place `at` is met after the first `count` names: it joins them where it is new and there is room.
 fn meet(
     text: &[u8],
     table: &[u8],
@@ -46,15 +46,19 @@ fn meet(
     spellings: &mut [u8],
     first: &mut [u16],
     prior: &mut [u16],
-    n: usize,
+    count: usize,
 ) -> Met
-    requires { ⌜ Named (namesIn (now spellings) n) n (now spellings) (now first) (now prior) × NameHere (now text) at (word .end) (word .bucket) × FoldTable (now table) ⌝ }
-    ensures { λ r. ⌜ Meeting (namesIn (now (spellings .entry)) n) (nameFolded (now (text .entry)) at) (r .number) (r .names) (now (spellings .entry)) (now (spellings .exit)) (now (first .exit)) (now (prior .exit)) ⌝ }
+    requires { ⌜ NameHere (letters (now table)) (now text) at (word .end) (word .bucket) × FoldTable (now table) ⌝ }
+    requires { ⌜ InOrder (lexiconOf count (now spellings) (now first) (now prior)) ⌝ }
+    ensures { λ r. ⌜ Meeting
+        (nameFolded (letters (now (table .entry))) (now (text .entry)) at) (r .room) (r .number)
+        (lexiconOf count (now (spellings .entry)) (now (first .entry)) (now (prior .entry)))
+        (lexiconOf (r .names) (now (spellings .exit)) (now (first .exit)) (now (prior .exit))) ⌝ }
 {
     let len = word.end - at;
     let number = find(
         spellings,
-        n,
+        count,
         first,
         prior,
         text,
@@ -63,12 +67,23 @@ fn meet(
         len,
         word.bucket,
     );
-    if number < n || n == Book::NAMES {
-        return Met { number, names: n };
+    if number < count {
+        return Met {
+            room: true,
+            number,
+            names: count,
+        };
+    }
+    if count == Book::NAMES {
+        return Met {
+            room: false,
+            number,
+            names: count,
+        };
     }
     add(
         spellings,
-        n,
+        count,
         first,
         prior,
         text,
@@ -78,18 +93,19 @@ fn meet(
         word.bucket,
     );
     Met {
-        number,
-        names: n + 1,
+        room: true,
+        number: count,
+        names: count + 1,
     }
 }
 
-// How many names there are then, and whether each found room.
+// How many names there are, and whether each found room.
 struct Joined {
-    pub names: usize,
     pub room: bool,
+    pub names: usize,
 }
 
-// The name from place `at` joins body m, while there is room.
+// The name from place `at` joins the row of a body, while there is room.
 fn join(
     text: &[u8],
     table: &[u8],
@@ -98,19 +114,23 @@ fn join(
     spellings: &mut [u8],
     first: &mut [u16],
     prior: &mut [u16],
-    bodies: &mut [u64],
+    row: &mut [u64],
     n: usize,
-    m: usize,
     room: bool,
 ) -> Joined
-    requires { ⌜ Ready room n m (now spellings) (now first) (now prior) (now bodies) × NameHere (now text) at (word .end) (word .bucket) × FoldTable (now table) ⌝ }
-    ensures kept { λ r. ⌜ Kept nameArea (now (spellings .entry)) (now (spellings .exit)) × Kept bodyArea (now (bodies .entry)) (now (bodies .exit)) ⌝ }
-    ensures joins { λ r. ⌜ Onward room (namesIn (now (spellings .entry)) n) (nameFolded (now (text .entry)) at ∷ []) m (r .room) (r .names) (now (spellings .exit)) (now (first .exit)) (now (prior .exit)) (now (bodies .entry)) (now (bodies .exit)) ⌝ }
+    requires { ⌜ NameHere (letters (now table)) (now text) at (word .end) (word .bucket) × FoldTable (now table) × (length (now row) ≡ bodyWords) ⌝ }
+    requires { ⌜ (room ≡ true → InOrder (lexiconOf n (now spellings) (now first) (now prior))) ⌝ }
+    ensures kept { λ r. ⌜ Kept nameArea (now (spellings .entry)) (now (spellings .exit)) ⌝ }
+    ensures joins { λ r. ⌜ Onward room
+        (namesAt (lexiconOf n (now (spellings .entry)) (now (first .entry)) (now (prior .entry))))
+        (nameFolded (letters (now (table .entry))) (now (text .entry)) at ∷ []) (r .room)
+        (lexiconOf (r .names) (now (spellings .exit)) (now (first .exit)) (now (prior .exit)))
+        (now (row .entry)) (now (row .exit)) ⌝ }
 {
     if !room {
         return Joined {
-            names: n,
             room: false,
+            names: n,
         };
     }
     // Most names of a body are known, and the search is the reader's hot path: it stands here, so that it is inlined where the body is walked.
@@ -127,16 +147,16 @@ fn join(
         word.bucket,
     );
     if known < n {
-        insert(bodies, Book::body_at(m), Book::BODY_WORDS, known);
+        insert(row, 0, Book::BODY_WORDS, known);
         return Joined {
-            names: n,
             room: true,
+            names: n,
         };
     }
     if n == Book::NAMES {
         return Joined {
-            names: n,
             room: false,
+            names: n,
         };
     }
     add(
@@ -150,61 +170,25 @@ fn join(
         len,
         word.bucket,
     );
-    insert(bodies, Book::body_at(m), Book::BODY_WORDS, n);
+    insert(row, 0, Book::BODY_WORDS, n);
     Joined {
+        room: true,
         names: n + 1,
-        room: true,
     }
 }
 
-// The name from place `at` becomes head m, before an empty body, where there is room for a rule and for the name.
-fn head(
-    text: &[u8],
-    table: &[u8],
-    at: usize,
-    word: Word,
-    spellings: &mut [u8],
-    first: &mut [u16],
-    prior: &mut [u16],
-    heads: &mut [u16],
-    bodies: &mut [u64],
-    n: usize,
-    m: usize,
-) -> Joined
-    requires { ⌜ Named (namesIn (now spellings) n) n (now spellings) (now first) (now prior) × NameHere (now text) at (word .end) (word .bucket) × FoldTable (now table) ⌝ }
-    requires { ⌜ (m ≤ rules) × (rules ≤ length (now heads)) × (bodyArea ≤ length (now bodies)) ⌝ }
-    ensures { λ r. ⌜ Headed (namesIn (now (spellings .entry)) n) (nameFolded (now (text .entry)) at) m (r .room) (r .names) (now (spellings .entry)) (now (spellings .exit)) (now (first .exit)) (now (prior .exit)) (now (heads .entry)) (now (heads .exit)) (now (bodies .entry)) (now (bodies .exit)) ⌝ }
-{
-    if m == Book::RULES {
-        return Joined {
-            names: n,
-            room: false,
-        };
-    }
-    let met = meet(text, table, at, word, spellings, first, prior, n);
-    if met.number == Book::NAMES {
-        return Joined {
-            names: n,
-            room: false,
-        };
-    }
-    heads[m] = met.number as u16;
-    clear_tail64(bodies, Book::body_at(m), Book::body_at(m + 1));
-    Joined {
-        names: met.names,
-        room: true,
-    }
-}
-
-// The place reached, the line's end where it is sound, and the names with their room.
-pub struct Taken {
-    pub at: usize,
+// What is found in a line: the number of its fault, 0 for none, and the cursor moved on; the head's number, and how many names there are,
+// where there was room for them.
+pub struct Found {
+    pub fault: usize,
+    pub cursor: Cursor,
+    pub head: usize,
     pub names: usize,
     pub room: bool,
-    pub sound: bool,
 }
 
-// The body from the cursor to the line's end: sound where each word is a name. While there is room its names join body m.
+// The body from the cursor to the line's end, behind a head of that number: at fault where a word is no name. While there is room its names
+// join the row.
 fn body(
     text: &[u8],
     table: &[u8],
@@ -212,25 +196,32 @@ fn body(
     spellings: &mut [u8],
     first: &mut [u16],
     prior: &mut [u16],
-    bodies: &mut [u64],
+    row: &mut [u64],
+    head: usize,
     n: usize,
-    m: usize,
     room: bool,
-) -> Taken
-    requires { ⌜ Ready room n m (now spellings) (now first) (now prior) (now bodies) × Closed (now text) (cursor .at) × FoldTable (now table) ⌝ }
-    ensures { λ r. ⌜ Bodied (now (text .entry)) (cursor .at) n m room (r .at) (r .names) (r .room) (r .sound) (now (spellings .entry)) (now (spellings .exit)) (now (first .exit)) (now (prior .exit)) (now (bodies .entry)) (now (bodies .exit)) ⌝ }
+) -> Found
+    requires { ⌜ Closed (now text) (cursor .at) × FoldTable (now table) × (length (now row) ≡ bodyWords) ⌝ }
+    requires { ⌜ (room ≡ true → InOrder (lexiconOf n (now spellings) (now first) (now prior))) ⌝ }
+    ensures head { λ r. ⌜ (r .head ≡ head) × (r .cursor .line ≡ cursor .line) ⌝ }
+    ensures body { λ r. ⌜ Bodied (letters (now (table .entry))) (now (text .entry)) (cursor .at) room
+        (lexiconOf n (now (spellings .entry)) (now (first .entry)) (now (prior .entry)))
+        (r .fault) (r .cursor .at) (r .room)
+        (lexiconOf (r .names) (now (spellings .exit)) (now (first .exit)) (now (prior .exit)))
+        (now (row .entry)) (now (row .exit)) ⌝ }
 {
-    let mut done = Joined { names: n, room };
+    let mut done = Joined { room, names: n };
     let mut here = cursor.past_blanks(text);
     while !here.sees(text, Cursor::LINE_END) {
         let at = here.at;
         let word = here.word(text, table);
         if !is_name(at, word) {
-            return Taken {
-                at,
+            return Found {
+                fault: Refusal::LINE,
+                cursor: here,
+                head,
                 names: done.names,
                 room: done.room,
-                sound: false,
             };
         }
         done = join(
@@ -241,25 +232,36 @@ fn body(
             spellings,
             first,
             prior,
-            bodies,
+            row,
             done.names,
-            m,
             done.room,
         );
-        here = Cursor {
-            at: word.end,
-            line: here.line,
-        }.past_blanks(text);
+        here = here.moved(word.end).past_blanks(text);
     }
-    Taken {
-        at: here.at,
+    Found {
+        fault: 0,
+        cursor: here,
+        head,
         names: done.names,
         room: done.room,
-        sound: true,
     }
 }
 
-// The rule from its head at the cursor to the line's end: sound where it is one. While there is room it becomes rule m.
+// A line at fault, found at the cursor.
+fn at_fault(cursor: Cursor, n: usize) -> Found
+    ensures { λ r. ⌜ r ≡ record { fault = 5; cursor = cursor; head = 0; names = n; room = false } ⌝ }
+{
+    Found {
+        fault: Refusal::LINE,
+        cursor,
+        head: 0,
+        names: n,
+        room: false,
+    }
+}
+
+// The rule from its head at the cursor to the line's end, its body in the row, which is lent clear. What is found does not depend on how
+// many rules there are.
 pub fn rule(
     text: &[u8],
     table: &[u8],
@@ -267,63 +269,39 @@ pub fn rule(
     spellings: &mut [u8],
     first: &mut [u16],
     prior: &mut [u16],
-    heads: &mut [u16],
-    bodies: &mut [u64],
+    row: &mut [u64],
     n: usize,
-    m: usize,
-) -> Taken
-    requires { ⌜ Named (namesIn (now spellings) n) n (now spellings) (now first) (now prior) × (m ≤ rules) × (rules ≤ length (now heads)) × (bodyArea ≤ length (now bodies)) × FoldTable (now table) ⌝ }
+) -> Found
     requires { ⌜ Closed (now text) (cursor .at) × (starts lineEnd (drop (cursor .at) (now text)) ≡ false) ⌝ }
-    ensures { λ r. ⌜ Said (now (text .entry)) (cursor .at) n m (r .at) (r .names) (r .room) (r .sound) (now (spellings .entry)) (now (spellings .exit)) (now (first .exit)) (now (prior .exit)) (now (heads .entry)) (now (heads .exit)) (now (bodies .entry)) (now (bodies .exit)) ⌝ }
+    requires { ⌜ FoldTable (now table) × (now row ≡ replicate bodyWords 0) ⌝ }
+    requires { ⌜ InOrder (lexiconOf n (now spellings) (now first) (now prior)) ⌝ }
+    ensures line { λ r. ⌜ r .cursor .line ≡ cursor .line ⌝ }
+    ensures said { λ r. ⌜ Said (letters (now (table .entry))) (now (text .entry)) (cursor .at)
+        (lexiconOf n (now (spellings .entry)) (now (first .entry)) (now (prior .entry)))
+        (r .fault) (r .cursor .at) (r .room) (r .head)
+        (lexiconOf (r .names) (now (spellings .exit)) (now (first .exit)) (now (prior .exit)))
+        (now (row .exit)) ⌝ }
 {
     let at = cursor.at;
     let word = cursor.word(text, table);
     if !is_name(at, word) {
-        return Taken {
-            at,
-            names: n,
-            room: false,
-            sound: false,
-        };
+        return at_fault(cursor, n);
     }
-    let colon = Cursor {
-        at: word.end,
-        line: cursor.line,
-    }.past_blanks(text);
+    let colon = cursor.moved(word.end).past_blanks(text);
     if !colon.sees(text, Cursor::COLON) {
-        return Taken {
-            at,
-            names: n,
-            room: false,
-            sound: false,
-        };
+        return at_fault(colon, n);
     }
-    let begun = head(
-        text,
-        table,
-        at,
-        word,
-        spellings,
-        first,
-        prior,
-        heads,
-        bodies,
-        n,
-        m,
-    );
+    let met = meet(text, table, at, word, spellings, first, prior, n);
     body(
         text,
         table,
-        Cursor {
-            at: colon.at + 1,
-            line: colon.line,
-        },
+        colon.moved(colon.at + 1),
         spellings,
         first,
         prior,
-        bodies,
-        begun.names,
-        m,
-        begun.room,
+        row,
+        met.number,
+        met.names,
+        met.room,
     )
 }

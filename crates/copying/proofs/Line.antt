@@ -13,48 +13,57 @@ use Rattle.copying.proofs.Putting.{Left, left-length, left-room, left-o
 
 -- of the line and its end, put at the front of old, `next` and then `rest` are left to put from place i of text on
 pub record LineLeft (line old next rest text : Bytes) (i : ℕ) : Type 0 where
+  pub room : length line + 1 ≤ length old
   pub left : Left old 0 (line ++ (lineEnd ∷ [])) (next ++ rest) text i
 
-module _ (line old : Bytes) (room : length line + 1 ≤ length old) where
-  fits : 0 + length (line ++ (lineEnd ∷ [])) ≤ length old
-  fits = omega (arith, length-append line (lineEnd ∷ []))
+-- with room for the line and its end
+fits : (line old : Bytes) → length line + 1 ≤ length old → 0 + length (line ++ (lineEnd ∷ [])) ≤ length old
+fits line old room = omega (arith, length-append line (lineEnd ∷ []))
 
-  -- before anything is put
-  pub line-start : (xs more : Bytes) → line ++ (lineEnd ∷ []) ≡ xs ++ more → LineLeft line old xs more old 0
-  line-start xs more e = record { left = left-as old 0 _ fits _ old 0 (left-start old 0 _ fits) (xs ++ more) e }
+-- before anything is put
+pub line-start : (line old xs more : Bytes) → length line + 1 ≤ length old → line ++ (lineEnd ∷ []) ≡ xs ++ more
+    → LineLeft line old xs more old 0
+line-start line old xs more room e =
+    let f = fits line old room in
+    record { room = room; left = left-as old 0 _ f _ old 0 (left-start old 0 _ f) (xs ++ more) e }
 
-  -- a part is next
-  module _ (xs more text : Bytes) (i : ℕ) (s : LineLeft line old xs more text i) where
-    -- there is room for it
-    pub part-room : i + length xs ≤ length text
-    part-room = omega (arith, left-room old 0 _ fits _ text i (s .left), length-append xs more)
+-- a part is next
+module _ {line old xs more text : Bytes} {i : ℕ} (s : LineLeft line old xs more text i) where
+  -- there is room for it
+  pub part-room : i + length xs ≤ length text
+  part-room = omega (arith, left-room old 0 _ (fits line old (s .room)) _ text i (s .left), length-append xs more)
 
-    -- it is put, and ys is next
-    pub part-put : (ys rest new : Bytes) (k : ℕ) → more ≡ ys ++ rest → new ≡ put i xs text → k ≡ i + length xs → LineLeft line old ys rest new k
-    part-put ys rest new k e p q =
-        record { left = left-on old 0 _ fits _ text i (s .left) xs (ys ++ rest) new k (ap (λ (r : Bytes). xs ++ r) e) p q }
+  -- it is put, and ys is next
+  pub part-put : (ys rest : Bytes) {new : Bytes} {k : ℕ} → more ≡ ys ++ rest → new ≡ put i xs text → k ≡ i + length xs
+      → LineLeft line old ys rest new k
+  part-put ys rest {new} {k} e p q =
+      record {
+        room = s .room;
+        left =
+            left-on old 0 _ (fits line old (s .room)) _ text i (s .left) xs (ys ++ rest) new k (ap (λ (r : Bytes). xs ++ r) e) p q;
+      }
 
-  -- the end is next
-  module _ (text : Bytes) (i : ℕ) (s : LineLeft line old (lineEnd ∷ []) [] text i) where
-    -- there is room for it
-    pub end-slot : i < length text
-    end-slot = omega (arith, part-room (lineEnd ∷ []) [] text i s)
+-- the end is next
+module _ {line old text : Bytes} {i : ℕ} (s : LineLeft line old (lineEnd ∷ []) [] text i) where
+  -- there is room for it
+  pub end-slot : i < length text
+  end-slot = omega (arith, part-room s)
 
-    -- it is put
-    done : Left old 0 (line ++ (lineEnd ∷ [])) [] (set text i lineEnd) (i + 1)
-    done = left-byte old 0 _ fits _ text i (s .left) lineEnd [] refl
+  -- it is put
+  done : Left old 0 (line ++ (lineEnd ∷ [])) [] (set text i lineEnd) (i + 1)
+  done = left-byte old 0 _ (fits line old (s .room)) _ text i (s .left) lineEnd [] refl
 
-    -- the area is as long as it was
-    pub line-length : length (set text i lineEnd) ≡ length old
-    line-length = left-length old 0 _ fits _ _ (i + 1) done
+  -- the area is as long as it was
+  pub line-length : length (set text i lineEnd) ≡ length old
+  line-length = left-length old 0 _ (fits line old (s .room)) _ _ (i + 1) done
 
-    -- it begins with the line
-    pub line-put : set text i lineEnd ≡ begun (line ++ (lineEnd ∷ [])) old
-    unfolding begun
-    line-put =
-        left-none old 0 _ fits _ _ (i + 1) done refl
-        ∙ ap (λ (m : ℕ). (line ++ (lineEnd ∷ [])) ++ drop m old) (zero-add (length (line ++ (lineEnd ∷ []))))
+  -- it begins with the line
+  pub line-put : set text i lineEnd ≡ begun (line ++ (lineEnd ∷ [])) old
+  unfolding begun
+  line-put =
+      left-none old 0 _ (fits line old (s .room)) _ _ (i + 1) done refl
+      ∙ ap (λ (m : ℕ). (line ++ (lineEnd ∷ [])) ++ drop m old) (zero-add (length (line ++ (lineEnd ∷ []))))
 
-    -- and the place is past it
-    pub line-next : i + 1 ≡ length line + 1
-    line-next = omega (arith, left-end old 0 _ fits _ _ (i + 1) done refl, length-append line (lineEnd ∷ []))
+  -- and the place is past it
+  pub line-next : i + 1 ≡ length line + 1
+  line-next = omega (arith, left-end old 0 _ (fits line old (s .room)) _ _ (i + 1) done refl, length-append line (lineEnd ∷ []))

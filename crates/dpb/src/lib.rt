@@ -9,7 +9,8 @@ const REFUSAL_UNIT: u64 = 65536;
 // Lists the book after so many folds. Returns 0, or refusal × 65,536 + line.
 #[no_mangle]
 pub extern "C" fn dpb_list(text: &[u8], folds: u64, listing: &mut [u8]) -> u64
-    ensures { λ r. ⌜ record { returned = r; listing = now (listing .exit) } ≡ hostCall folded (now (text .entry)) folds (now (listing .entry)) ⌝ }
+    ensures { λ r. ⌜ record { returned = r; listing = now (listing .exit) }
+        ≡ hostCall folded (now (text .entry)) folds (now (listing .entry)) ⌝ }
 {
     let r = lister::list(text, folds as usize, listing);
     r.number as u64 * REFUSAL_UNIT + r.line as u64

@@ -25,7 +25,7 @@ beyond : (lo hi b : ℕ) → hi < b → from-to lo hi b ≡ false
 beyond lo hi b l = ap (λ (x : Bool). leb lo b && x) (lt-leb b hi l) ∙ and-false (leb lo b)
 
 -- past the bytes the entry is 0
-past-bytes : (b : ℕ) → 256 ≤ b → folded b ≡ 0
+pub past-bytes : (b : ℕ) → 256 ≤ b → folded b ≡ 0
 unfolding folded small pick
 past-bytes b l =
     rw (

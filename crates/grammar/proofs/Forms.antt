@@ -11,6 +11,7 @@ use lib.ListN.{drop}
 use borrow.Author.Tests.{eqb-true}
 use Rattle.sets.proofs.Logic.{either, clash, not-true}
 use Rattle.grammar.specs.Bytes.{Bytes, Folding, blank, nameByte, colon, hash}
+use Rattle.limits.specs.Cause.{OneOf, faultCauses}
 use Rattle.grammar.specs.Grammar.{Blanks, Name, RuleLine, Remark, spelling, Form, silent, rule, fault, Says}
 use Rattle.grammar.specs.Lines.{span, run, past, wordsOf, isName, allNames, starts, formOf}
 use Rattle.grammar.proofs.Spans.{span-nil, span-no, past-none, all-head, all-run, run-past, past-over, past-all}
@@ -100,7 +101,7 @@ module _ (fold : ℕ → ℕ) (law : Folding fold) where
   abbrev Told : Bytes → Type 0
   Told s =
       ((formOf fold s ≡ silent) × (Blanks s ⊎ Remark s))
-      ⊎ (((h : Bytes) × (ns : List Bytes) × (formOf fold s ≡ rule (spelling fold h ns)) × RuleLine fold s h ns) ⊎ (formOf fold s ≡ fault))
+      ⊎ (((h : Bytes) × (ns : List Bytes) × (formOf fold s ≡ rule (spelling fold h ns)) × RuleLine fold s h ns) ⊎ (formOf fold s ≡ fault 5))
 
   -- behind the colon
   told-body : (s : Bytes) (b : ℕ) (t rest : Bytes) → starts hash s ≡ false → past blank s ≡ b ∷ t
@@ -141,13 +142,13 @@ module _ (fold : ℕ → ℕ) (law : Folding fold) where
   unfolding Says
   form-is s silent d = silent-form s d
   form-is s (rule c) (h, ns, l, e) = rule-form s h ns l ∙ ap rule (sym e)
-  form-is s fault (b, r, l) = at (told s)
+  form-is s (fault k) d = at (told s)
     where
-      at : Told s → formOf fold s ≡ fault
-      at (inl (e, inl x)) = absurd (b x)
-      at (inl (e, inr x)) = absurd (r x)
-      at (inr (inl (h, ns, e, x))) = absurd (l h ns x)
-      at (inr (inr e)) = e
+      at : Told s → formOf fold s ≡ fault k
+      at (inl (e, inl x)) = absurd (d .formless .not-blank x)
+      at (inl (e, inr x)) = absurd (d .formless .no-remark x)
+      at (inr (inl (h, ns, e, x))) = absurd (d .formless .no-rule h ns x)
+      at (inr (inr e)) = e ∙ ap fault (sym (d .number))
 
   -- sound: a line is of its computed form
   pub is-form : (s : Bytes) (f : Form) → formOf fold s ≡ f → Says fold s f
@@ -164,8 +165,23 @@ module _ (fold : ℕ → ℕ) (law : Folding fold) where
       at (inl (q, x)) = let o : _≡_ {A = ℕ} 0 1 = cc in absurd (omega arith)
       at (inr (inl (h, ns, q, x))) = (h, ns, x, cc)
       at (inr (inr q)) = let o : _≡_ {A = ℕ} 0 1 = cc in absurd (omega arith)
-  is-form s fault e = (
-    (λ b. let q = silent-form s (inl b) in let o : _≡_ {A = ℕ} 0 1 = cc in omega arith),
-    (λ r. let q = silent-form s (inr r) in let o : _≡_ {A = ℕ} 0 1 = cc in omega arith),
-    (λ h ns l. let q = rule-form s h ns l in let o : _≡_ {A = ℕ} 0 1 = cc in omega arith),
-  )
+  is-form s (fault k) e =
+      record {
+        formless =
+            record {
+              not-blank = λ b. let q = silent-form s (inl b) in let o : _≡_ {A = ℕ} 0 1 = cc in omega arith;
+              no-remark = λ r. let q = silent-form s (inr r) in let o : _≡_ {A = ℕ} 0 1 = cc in omega arith;
+              no-rule = λ h ns l. let q = rule-form s h ns l in let o : _≡_ {A = ℕ} 0 1 = cc in omega arith;
+            };
+        number = at (told s);
+      }
+    where
+      at : Told s → k ≡ 5
+      at (inl (q, x)) = let o : _≡_ {A = ℕ} 0 1 = cc in absurd (omega arith)
+      at (inr (inl (h, ns, q, x))) = let o : _≡_ {A = ℕ} 0 1 = cc in absurd (omega arith)
+      at (inr (inr q)) = cc
+
+-- a fault's number is one of the list
+pub fault-cause : (fold : ℕ → ℕ) (s : Bytes) (k : ℕ) → Says fold s (fault k) → OneOf k faultCauses
+unfolding Says OneOf
+fault-cause fold s k d = inl (d .number)

@@ -10,11 +10,11 @@ use Rattle.grammar.specs.Grammar.{Text, mark, joined, Marked, Ended}
 use Rattle.grammar.specs.Lines.{lines}
 use Rattle.grammar.specs.Claims.{Classified, Cut}
 use Rattle.grammar.proofs.Cutting.{Closed, lines-joined, unbroken-lines, ended-drop, joined-closed, joined-lines}
-use Rattle.grammar.proofs.Forms.{form-is, is-form}
+use Rattle.grammar.proofs.Forms.{form-is, is-form, fault-cause}
 
 -- each line is of exactly one form, and it is the computed one
 pub classified : (fold : ℕ → ℕ) → Folding fold → Classified fold
-classified fold law = record { forms = λ s f. (form-is fold law s f, is-form fold law s f) }
+classified fold law = record { forms = λ s f. (form-is fold law s f, is-form fold law s f); causes = fault-cause fold }
 
 -- what follows the mark
 body-of : (t rest : Bytes) → t ≡ mark ++ rest → drop (length mark) t ≡ rest

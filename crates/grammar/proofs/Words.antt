@@ -276,15 +276,15 @@ starts-is x [] e = clash e refl
 starts-is x (b ∷ s) e = ap (λ (y : ℕ). y ∷ s) (eqb-true b x e)
 
 -- no colon behind a head
-uncolon : (fold : ℕ → ℕ) (h u : Bytes) → starts colon u ≡ false → fromColon fold h u ≡ fault
+pub uncolon : (fold : ℕ → ℕ) (h u : Bytes) → starts colon u ≡ false → fromColon fold h u ≡ fault 5
 unfolding fromColon starts
 uncolon fold h [] e = refl
-uncolon fold h (b ∷ u) e = pick-false (rule (spelling fold h (wordsOf u))) fault (rw e)
+uncolon fold h (b ∷ u) e = pick-false (rule (spelling fold h (wordsOf u))) (fault 5) (rw e)
 
 module _ (fold : ℕ → ℕ) (s : Bytes) where
   -- a line with bytes that are no blanks, by its head
   abbrev headed : Bytes → Form
-  headed u = pick (isName fold (run (nameByte fold) u)) (fromColon fold (run (nameByte fold) u) (past blank (past (nameByte fold) u))) fault
+  headed u = pick (isName fold (run (nameByte fold) u)) (fromColon fold (run (nameByte fold) u) (past blank (past (nameByte fold) u))) (fault 5)
 
   form-head : (b : ℕ) (t : Bytes) → starts hash s ≡ false → past blank s ≡ b ∷ t → formOf fold s ≡ headed (past blank s)
   unfolding formOf fromHead
@@ -304,35 +304,35 @@ module _ (fold : ℕ → ℕ) (s : Bytes) where
 
   -- no name at the head
   pub form-headless : (b : ℕ) (t : Bytes) → starts hash s ≡ false → past blank s ≡ b ∷ t
-      → isName fold (run (nameByte fold) (past blank s)) ≡ false → formOf fold s ≡ fault
-  form-headless b t q e n = form-head b t q e ∙ pick-false _ fault n
+      → isName fold (run (nameByte fold) (past blank s)) ≡ false → formOf fold s ≡ fault 5
+  form-headless b t q e n = form-head b t q e ∙ pick-false _ (fault 5) n
 
   -- no colon behind the head
   pub form-uncolon : (b : ℕ) (t : Bytes) → starts hash s ≡ false → past blank s ≡ b ∷ t
-      → starts colon (past blank (past (nameByte fold) (past blank s))) ≡ false → formOf fold s ≡ fault
+      → starts colon (past blank (past (nameByte fold) (past blank s))) ≡ false → formOf fold s ≡ fault 5
   form-uncolon b t q e c =
       form-head b t q e
       ∙ either (isName fold (run (nameByte fold) (past blank s)))
-      (λ n. pick-true _ fault n ∙ uncolon fold (run (nameByte fold) (past blank s)) (past blank (past (nameByte fold) (past blank s))) c)
-      (λ n. pick-false _ fault n)
+      (λ n. pick-true _ (fault 5) n ∙ uncolon fold (run (nameByte fold) (past blank s)) (past blank (past (nameByte fold) (past blank s))) c)
+      (λ n. pick-false _ (fault 5) n)
 
   -- a head and a colon: the words of the body tell
   pub form-colon : (b : ℕ) (t rest : Bytes) → starts hash s ≡ false → past blank s ≡ b ∷ t
       → isName fold (run (nameByte fold) (past blank s)) ≡ true → past blank (past (nameByte fold) (past blank s)) ≡ colon ∷ rest
       → formOf fold s
-      ≡ pick (allNames fold (wordsOf rest)) (rule (spelling fold (run (nameByte fold) (past blank s)) (wordsOf rest))) fault
+      ≡ pick (allNames fold (wordsOf rest)) (rule (spelling fold (run (nameByte fold) (past blank s)) (wordsOf rest))) (fault 5)
   unfolding fromColon
   form-colon b t rest q e n c =
-      form-head b t q e ∙ pick-true _ fault n ∙ ap (fromColon fold (run (nameByte fold) (past blank s))) c
+      form-head b t q e ∙ pick-true _ (fault 5) n ∙ ap (fromColon fold (run (nameByte fold) (past blank s))) c
 
   -- all of them names: a rule
   pub form-rule : (b : ℕ) (t rest : Bytes) → starts hash s ≡ false → past blank s ≡ b ∷ t
       → isName fold (run (nameByte fold) (past blank s)) ≡ true → past blank (past (nameByte fold) (past blank s)) ≡ colon ∷ rest
       → allNames fold (wordsOf rest) ≡ true → formOf fold s ≡ rule (spelling fold (run (nameByte fold) (past blank s)) (wordsOf rest))
-  form-rule b t rest q e n c w = form-colon b t rest q e n c ∙ pick-true _ fault w
+  form-rule b t rest q e n c w = form-colon b t rest q e n c ∙ pick-true _ (fault 5) w
 
   -- not all: a fault
   pub form-body : (b : ℕ) (t rest : Bytes) → starts hash s ≡ false → past blank s ≡ b ∷ t
       → isName fold (run (nameByte fold) (past blank s)) ≡ true → past blank (past (nameByte fold) (past blank s)) ≡ colon ∷ rest
-      → allNames fold (wordsOf rest) ≡ false → formOf fold s ≡ fault
-  form-body b t rest q e n c w = form-colon b t rest q e n c ∙ pick-false _ fault w
+      → allNames fold (wordsOf rest) ≡ false → formOf fold s ≡ fault 5
+  form-body b t rest q e n c w = form-colon b t rest q e n c ∙ pick-false _ (fault 5) w

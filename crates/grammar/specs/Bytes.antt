@@ -7,7 +7,8 @@ use mathlib.Core.List.{List, [], _∷_}
 use Prim.Native.Nat.{ℕ, _+_, _<_}
 use Prim.Native.Char.{code}
 use Prim.Native.String.{String, [] as empty, _∷_ as _then_}
-use lib.Dec.{eqb, leb}
+use lib.Dec.{eqb, leb, ltb}
+use lib.ListN.{getD}
 use Rattle.sets.specs.Set.{pick}
 
 abbrev pub Bytes : Type 0
@@ -53,6 +54,10 @@ small b = from-to 97 122 b || (from-to 48 57 b || (eqb b 46 || (eqb b 95 || eqb 
 -- document 01's entry for a byte: the small letter; 0 for a byte that no name has
 unfoldable pub folded : ℕ → ℕ
 folded b = pick (from-to 65 90 b) (b + 32) (pick (small b) b 0)
+
+-- the folding that a table gives: "one for each byte value", and 0 for a number that is no byte
+unfoldable pub letters : List ℕ → ℕ → ℕ
+letters table b = pick (ltb b 256) (getD table b 0) 0
 
 -- bytes that are no part of a name under any folding: 0, which pads names, and the bytes of the grammar
 unfoldable pub reserved : ℕ → Bool

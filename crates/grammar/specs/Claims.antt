@@ -5,13 +5,15 @@ use mathlib.Core.Logic.{_↔_}
 use mathlib.Core.List.{List}
 use Prim.Native.Nat.{ℕ}
 use lib.ListN.{length, drop}
+use Rattle.limits.specs.Cause.{OneOf, faultCauses}
 use Rattle.grammar.specs.Bytes.{Bytes}
-use Rattle.grammar.specs.Grammar.{Form, Says, Text, mark, Marked, Ended}
+use Rattle.grammar.specs.Grammar.{Form, fault, Says, Text, mark, Marked, Ended}
 use Rattle.grammar.specs.Lines.{lines, formOf}
 
--- the computed form of a line is the one form that it is of
+-- the computed form of a line is the one form that it is of; a fault has one of the numbers of a line's fault
 pub record Classified (fold : ℕ → ℕ) : Type 0 where
   pub forms : (s : Bytes) (f : Form) → Says fold s f ↔ (formOf fold s ≡ f)
+  pub causes : (s : Bytes) (k : ℕ) → Says fold s (fault k) → OneOf k faultCauses
 
 -- a text that is marked and ended has exactly the lines that cutting it gives
 pub record Cut : Type 0 where

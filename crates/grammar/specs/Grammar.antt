@@ -53,17 +53,28 @@ pub record Clause : Type 0 where
 abbrev pub spelling : (ℕ → ℕ) → Bytes → List Bytes → Clause
 spelling fold h ns = record { head = map fold h; body = map (map fold) ns }
 
--- what a line is: nothing to read, a rule, or a line of no listed form
+-- what a line is: nothing to read, a rule, or at fault, with the number of its cause
 pub data Form : Type 0 where
   silent : Form
   rule : Clause → Form
-  fault : Form
+  fault : ℕ → Form
+
+-- a line of no listed form
+pub record Formless (fold : ℕ → ℕ) (s : Bytes) : Type 0 where
+  pub not-blank : Blanks s → ⊥
+  pub no-remark : Remark s → ⊥
+  pub no-rule : (h : Bytes) (ns : List Bytes) → RuleLine fold s h ns → ⊥
+
+-- the line s is at fault under the number k: 5 for every line of no listed form
+pub record Fault (fold : ℕ → ℕ) (s : Bytes) (k : ℕ) : Type 0 where
+  pub formless : Formless fold s
+  pub number : k ≡ 5
 
 -- the line s is of that form
 unfoldable pub Says : (ℕ → ℕ) → Bytes → Form → Type 0
 Says fold s silent = Blanks s ⊎ Remark s
 Says fold s (rule c) = (h : Bytes) × (ns : List Bytes) × RuleLine fold s h ns × (c ≡ spelling fold h ns)
-Says fold s fault = (Blanks s → ⊥) × (Remark s → ⊥) × ((h : Bytes) (ns : List Bytes) → RuleLine fold s h ns → ⊥)
+Says fold s (fault k) = Fault fold s k
 
 -- the nine bytes `DPB 0001` and a line end
 abbrev pub mark : Bytes

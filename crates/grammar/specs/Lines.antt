@@ -53,8 +53,8 @@ allNames fold (w ∷ ws) = isName fold w && allNames fold ws
 
 -- a line whose head is h, from the colon on
 unfoldable pub fromColon : (ℕ → ℕ) → Bytes → Bytes → Form
-fromColon fold h [] = fault
-fromColon fold h (b ∷ rest) = pick (eqb b colon && allNames fold (wordsOf rest)) (rule (spelling fold h (wordsOf rest))) fault
+fromColon fold h [] = fault 5
+fromColon fold h (b ∷ rest) = pick (eqb b colon && allNames fold (wordsOf rest)) (rule (spelling fold h (wordsOf rest))) (fault 5)
 
 -- a line from its first byte that is no blank
 unfoldable pub fromHead : (ℕ → ℕ) → Bytes → Form
@@ -62,7 +62,7 @@ fromHead fold [] = silent
 fromHead fold (b ∷ s) =
     pick (isName fold (run (nameByte fold) (b ∷ s)))
     (fromColon fold (run (nameByte fold) (b ∷ s)) (past blank (past (nameByte fold) (b ∷ s))))
-    fault
+    (fault 5)
 
 -- whether the first byte is b
 unfoldable pub starts : ℕ → Bytes → Bool

@@ -4,5 +4,6 @@ pub mod Ways
 pub mod Printing
 pub mod Judging
 pub mod Listing
+pub mod Sizes
 pub mod Theorems
 pub mod Samples

@@ -10,6 +10,8 @@ use lib.Dec.{ltb}
 use lib.ListN.{length, length-append}
 use borrow.Author.Tests.{ltb-true, ltb-false}
 use Rattle.limits.specs.Book.{textBytes, atoms, folds}
+use Rattle.limits.specs.Cause.{solveCauses}
+use Rattle.limits.proofs.Causes.{upTo, one-most}
 use Rattle.sets.proofs.Logic.{either}
 use Rattle.program.specs.Standard.{standard}
 use Rattle.grammar.specs.Bytes.{Bytes, Folding, lineEnd, colon, blank}
@@ -19,7 +21,6 @@ use Rattle.tables.specs.Numbering.{programOf}
 use Rattle.tables.specs.Reading.{Reading, read, refused, bookOf, Barred, Refusal}
 use Rattle.tables.proofs.Theorems.{judged}
 use Rattle.solving.specs.Solve.{SolveAreas, SolveOutcome, shortAreas, answerOf, solveRead, solveCall}
-use Rattle.solving.specs.SolveClaims.{highestRefusal}
 use Rattle.solving.proofs.Judging.{solve-short, solve-long-text, solve-over-folds, solve-in-range}
 use Rattle.solving.proofs.Judging.{solve-refused, solve-over-atoms, solve-solved, solve-judges}
 use Rattle.hosting.specs.List.{ListOutcome, ownAreas, listCall}
@@ -35,7 +36,7 @@ joined-here (x ∷ ls) s rest = omega (arith, length-append x (lineEnd ∷ joine
 -- a line that is refused has a byte of its own
 barred-some : (fold : ℕ → ℕ) (cs : List Clause) (s : Bytes) (q : ℕ) → Barred fold cs s q → 1 ≤ length s
 unfolding Barred Says
-barred-some fold cs [] q (inl x) = absurd (x .1 .0 (all-nil blank))
+barred-some fold cs [] q (inl x) = absurd (x .formless .not-blank (all-nil blank))
 barred-some fold cs (b ∷ s) q (inl x) = omega arith
 barred-some fold cs s q (inr x) =
     let w : RuleLine fold s (x .1 .0) (x .1 .1) = x .1 .2 in
@@ -94,17 +95,18 @@ module _ (fold : ℕ → ℕ) (folding : Folding fold) (t : Bytes) (k : ℕ) (ol
       (λ f. subst Lined (sym (solve-over-folds fold t k old s fits (ltb-true folds k f))) (inl refl))
       (λ f. subst Lined (sym (solve-in-range fold t k old s fits (ltb-false folds k f))) (read-lined fits (bookOf fold t) refl))))
 
--- a number of at most 9, a line of at most 16,375
+-- a number of at most two figures, a line of at most 16,375
 abbrev pub Ranged : ℕ → ℕ → Type 0
-Ranged number line = (number ≤ highestRefusal) × (line ≤ highestLine)
+Ranged number line = (number ≤ 99) × (line ≤ highestLine)
 
 -- a book listed
 pub list-range : (fold : ℕ → ℕ) → Folding fold → (t : Bytes) (k : ℕ) (listing : Bytes)
     → Ranged (listCall fold t k listing .number) (listCall fold t k listing .line)
-unfolding listCall
+unfolding listCall upTo
 list-range fold folding t k listing =
+    let number : ℕ = solveCall fold t k (ownAreas listing) .answer .number in
     let line : ℕ = solveCall fold t k (ownAreas listing) .answer .line in (
-      solve-judges fold folding t k (ownAreas listing) .no-other,
+      ⊎-elim (λ (z : number ≡ 0). omega arith) (one-most 99 number solveCauses refl) (solve-judges fold folding t k (ownAreas listing) .no-other),
       ⊎-elim (λ (z : line ≡ 0). omega arith) (λ p. omega (arith, p .0, refused-line fold t _ _ (p .1))) (solve-lined fold folding t k (ownAreas listing)),
     )
 

@@ -18,6 +18,7 @@ use Rattle.hosting.proofs.Range.{list-range}
 use Rattle.hosting.proofs.Printing.{area-is, printed-line, text-nonzero}
 use Rattle.hosting.proofs.Judging.{same-one, none-refused, call-judges}
 use Rattle.hosting.proofs.Listing.{call-lists}
+use Rattle.hosting.proofs.Sizes.{call-sizes}
 
 module _ (fold : ℕ → ℕ) (folding : Folding fold) where
   -- what is printed, by the call in any area of the stated size
@@ -35,7 +36,8 @@ module _ (fold : ℕ → ℕ) (folding : Folding fold) where
       }
 
 pub hosts : (fold : ℕ → ℕ) → Folding fold → Hosts fold
-hosts fold folding = record { judges = call-judges fold folding; lists = call-lists fold folding; prints = prints-in fold folding }
+hosts fold folding =
+    record { judges = call-judges fold folding; lists = call-lists fold folding; prints = prints-in fold folding; sizes = call-sizes fold }
 
 -- as the calls' contracts have them
 pub hosts-listed : Hosts folded

@@ -18,7 +18,7 @@ use Rattle.grammar.specs.Bytes.{Bytes, Folding}
 use Rattle.grammar.specs.Grammar.{Clause}
 use Rattle.tables.specs.Numbering.{namesOf, programOf}
 use Rattle.tables.specs.Reading.{Reading, read, refused, bookOf, reading}
-use Rattle.tables.proofs.Calls.{refusal-range}
+use Rattle.tables.proofs.Calls.{refusal-some}
 use Rattle.tables.proofs.Judging.{reading-short}
 use Rattle.tables.proofs.Theorems.{judged}
 use Rattle.solving.specs.Listing.{listingLines, listed}
@@ -99,9 +99,8 @@ module _ (fold : ℕ → ℕ) (folding : Folding fold) (t old : Bytes) (long : l
       by-reading : (x : Reading) → bookOf fold t ≡ x → Way fold t old r
       unfolding answerOf solvedAreas linesOf
       by-reading (refused q line) b =
-          let range : (3 ≤ q) × (q ≤ 7) = refusal-range fold t q line (judged fold folding .refuses t q line .0 b) in
           way-refused r q line (r-is _ (read-is (refused q line) b ∙ solve-refused q line folds (ownAreas old)))
-          (λ z. omega (arith, range .0)) (lines-are (refused q line) b)
+          (refusal-some fold t q line (judged fold folding .refuses t q line .0 b)) (lines-are (refused q line) b)
       by-reading (read cs) b =
           let m : ℕ = standard (programOf cs) .atoms in
           either (ltb atoms m)

@@ -3,12 +3,13 @@
 -- number and an area of any length, what is printed by the call with 8 folds and an area of the stated size.
 -- Assumes nothing.
 use mathlib.Core.Path.{_≡_}
-use mathlib.Core.Logic.{_↔_}
+use mathlib.Core.Logic.{_⊎_, _↔_}
 use mathlib.Core.Bool.{true}
-use mathlib.Core.List.{List, [], _∷_}
+use mathlib.Core.List.{List, [], _∷_, _++_}
 use Prim.Native.Nat.{ℕ, _-_, _/_, _%_, _≤_, _<_}
-use lib.ListN.{length, getD, drop}
+use lib.ListN.{length, getD, take, drop}
 use Rattle.limits.specs.Book.{textBytes, atoms, folds, listingBytes}
+use Rattle.limits.specs.Cause.{OneOf, lineCauses, textCauses, solveCauses}
 use Rattle.program.specs.System.{folded, roundsOf}
 use Rattle.program.specs.Standard.{standard}
 use Rattle.grammar.specs.Bytes.{Bytes, allOf, Among}
@@ -19,7 +20,6 @@ use Rattle.tables.specs.Areas.{filled, nonzero}
 use Rattle.solving.specs.Listing.{headLine}
 use Rattle.solving.specs.ListingClaims.{longestListing}
 use Rattle.solving.specs.Models.{InEveryModelOf}
-use Rattle.solving.specs.SolveClaims.{highestRefusal}
 use Rattle.hosting.specs.Call.{CallOutcome, refusalUnit, asOne, hostCall}
 use Rattle.hosting.specs.Print.{refusalLine, printed}
 
@@ -38,10 +38,13 @@ pub record CallJudges (fold : ℕ → ℕ) (t : Bytes) (k : ℕ) (old : Bytes) (
   pub short : (r .returned ≡ asOne 1 0) ↔ (length old < listingBytes)
   pub long-text : (r .returned ≡ asOne 2 0) ↔ ((listingBytes ≤ length old) × (textBytes < length t))
   pub over-folds : (r .returned ≡ asOne 9 0) ↔ ((listingBytes ≤ length old) × (length t ≤ textBytes) × (folds < k))
-  pub text : (q line : ℕ) → 3 ≤ q → q ≤ 7 → line < refusalUnit → (r .returned ≡ asOne q line) ↔ (HostRange t k old × Refusal fold t q line)
+  -- those of a text with their line, as the grammar says
+  pub text : (q line : ℕ) → OneOf q textCauses → line < refusalUnit → (r .returned ≡ asOne q line) ↔ (HostRange t k old × Refusal fold t q line)
   pub over-atoms : (r .returned ≡ asOne 8 0) ↔ (HostRange t k old × ((cs : List Clause) × Book fold t cs × (atoms < standard (programOf cs) .atoms)))
-  -- no other number: the refusal is at most 9 and the line at most 16,375
-  pub number : r .returned / refusalUnit ≤ highestRefusal
+  -- 0 and these are all its numbers: 10, 11 and 12 cannot occur
+  pub no-other : (r .returned / refusalUnit ≡ 0) ⊎ OneOf (r .returned / refusalUnit) solveCauses
+  -- a line comes with exactly these, and is at most 16,375
+  pub lined : (r .returned % refusalUnit ≡ 0 → ⊥) ↔ OneOf (r .returned / refusalUnit) lineCauses
   pub line : r .returned % refusalUnit ≤ highestLine
   -- a refusal leaves the area as it was, and nothing past its stated size is ever touched
   pub kept : (r .returned ≡ 0 → ⊥) → r .listing ≡ old
@@ -71,8 +74,14 @@ pub record Prints (fold : ℕ → ℕ) (t : Bytes) (r : CallOutcome) : Type 0 wh
   pub text : allOf nonzero (printed fold t) ≡ true
   pub refused : (q line : ℕ) → (q ≡ 0 → ⊥) → line < refusalUnit → r .returned ≡ asOne q line → printed fold t ≡ joined (refusalLine q line ∷ [])
 
+-- what the call returns and leaves of an area cut to its stated size, with what was cut off put after
+abbrev pub callWithRest : Bytes → CallOutcome → CallOutcome
+callWithRest old r = record { returned = r .returned; listing = r .listing ++ drop listingBytes old }
+
 -- all together
 pub record Hosts (fold : ℕ → ℕ) : Type 0 where
   pub judges : (t : Bytes) (k : ℕ) (old : Bytes) → CallJudges fold t k old (hostCall fold t k old)
   pub lists : (t : Bytes) (k : ℕ) (old : Bytes) → hostCall fold t k old .returned ≡ 0 → CallLists fold t k old (hostCall fold t k old)
   pub prints : (t old : Bytes) → length old ≡ listingBytes → Prints fold t (hostCall fold t folds old)
+  -- what lies past the stated size is neither judged nor touched
+  pub sizes : (t : Bytes) (k : ℕ) (old : Bytes) → hostCall fold t k old ≡ callWithRest old (hostCall fold t k (take listingBytes old))

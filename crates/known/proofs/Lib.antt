@@ -1,2 +1,3 @@
 pub mod Plain
 pub mod Settled
+pub mod Edges

@@ -1,3 +1,4 @@
 pub mod Known
 pub mod Test
 pub mod Table
+pub mod Edges

@@ -17,7 +17,7 @@ use Rattle.sets.proofs.Logic.{either, clash, and-left, and-right, and-make, of-
 use Rattle.words.specs.Row.{part, put}
 use Rattle.words.proofs.Areas.{length-part}
 use Rattle.rows.specs.Clear.{cleared}
-use Rattle.grammar.specs.Bytes.{Bytes, folded, small, nameByte, allOf}
+use Rattle.grammar.specs.Bytes.{Bytes, Folding, blank, reserved, nameByte, allOf}
 use Rattle.grammar.specs.Lines.{span, run, isName}
 use Rattle.grammar.proofs.Words.{name-bytes}
 use Rattle.tables.specs.Numbering.{sameBytes}
@@ -42,20 +42,20 @@ same-end [] = refl
 same-end (x ∷ r) = either (eqb x 0) (λ e. rw (e, eqb·suc-zero)) (λ e. rw (e, eqb·suc-zero))
 
 -- the bytes of a name are none of them zero
-all-at : (s : Bytes) (i : ℕ) → allOf (nameByte folded) s ≡ true → i < length s → folded (getD s i 0) ≡ 0 → ⊥
+all-at : (fold : ℕ → ℕ) (s : Bytes) (i : ℕ) → allOf (nameByte fold) s ≡ true → i < length s → fold (getD s i 0) ≡ 0 → ⊥
 unfolding allOf nameByte
-all-at [] i h l e = omega arith
-all-at (b ∷ s) zero h l e =
-    clash (eq-eqb (folded b) 0 e) (of-not (eqb (folded b) 0) (and-left (not (eqb (folded b) 0)) (allOf (nameByte folded) s) h))
-all-at (b ∷ s) (suc i) h l e = all-at s i (and-right (not (eqb (folded b) 0)) (allOf (nameByte folded) s) h) (omega arith) e
+all-at fold [] i h l e = omega arith
+all-at fold (b ∷ s) zero h l e =
+    clash (eq-eqb (fold b) 0 e) (of-not (eqb (fold b) 0) (and-left (not (eqb (fold b) 0)) (allOf (nameByte fold) s) h))
+all-at fold (b ∷ s) (suc i) h l e = all-at fold s i (and-right (not (eqb (fold b) 0)) (allOf (nameByte fold) s) h) (omega arith) e
 
 -- byte i of a folded list
-folded-at : (s : Bytes) (i : ℕ) → getD (map folded s) i 0 ≡ folded (getD s i 0)
-unfolding folded pick small
-folded-at s i = List·getD-map folded s i 0
+folded-at : (fold : ℕ → ℕ) → Folding fold → (s : Bytes) (i : ℕ) → getD (map fold s) i 0 ≡ fold (getD s i 0)
+unfolding reserved blank
+folded-at fold law s i = ap (getD (map fold s) i) (sym (law .none 0 refl)) ∙ List·getD-map fold s i 0
 
 -- a name stands at `at` of a text
-module _ (text : Bytes) (at len : ℕ) (h : NameAt text at len) where
+module _ (fold : ℕ → ℕ) (law : Folding fold) (text : Bytes) (at len : ℕ) (h : NameAt fold text at len) where
   -- its bytes as they stand there
   abbrev stem : Bytes
   stem = part at len text
@@ -65,54 +65,54 @@ module _ (text : Bytes) (at len : ℕ) (h : NameAt text at len) where
   stem-length = length-part at len text (h .0)
 
   -- each one that names have
-  stem-all : allOf (nameByte folded) stem ≡ true
-  stem-all = name-bytes folded stem (h .1)
+  stem-all : allOf (nameByte fold) stem ≡ true
+  stem-all = name-bytes fold stem (h .1)
 
   -- it has at most 32 bytes
   pub name-fits : len ≤ nameBytes
   unfolding isName
   name-fits =
       let e : length stem ≤ nameBytes = leb-true (length stem) nameBytes
-      (and-left (leb (length stem) nameBytes) (allOf (nameByte folded) stem)
-      (and-right (leb 1 (length stem)) (leb (length stem) nameBytes && allOf (nameByte folded) stem) (h .1))) in
+      (and-left (leb (length stem) nameBytes) (allOf (nameByte fold) stem)
+      (and-right (leb 1 (length stem)) (leb (length stem) nameBytes && allOf (nameByte fold) stem) (h .1))) in
       omega (arith, stem-length)
 
   -- and its folded word as many
-  word-length : length (wordAt text at len) ≡ len
-  word-length = length-map stem folded ∙ stem-length
+  word-length : length (wordAt fold text at len) ≡ len
+  word-length = length-map stem fold ∙ stem-length
 
   -- whose byte i is that of the text, folded
-  word-at : (i : ℕ) → i < len → getD (wordAt text at len) i 0 ≡ folded (getD text (at + i) 0)
-  word-at i l = folded-at stem i ∙ ap folded (getD-take len (drop at text) i 0 l ∙ getD-drop at text i 0)
+  word-at : (i : ℕ) → i < len → getD (wordAt fold text at len) i 0 ≡ fold (getD text (at + i) 0)
+  word-at i l = folded-at fold law stem i ∙ ap fold (getD-take len (drop at text) i 0 l ∙ getD-drop at text i 0)
 
   -- and not zero
-  word-nonzero : (i : ℕ) → i < len → getD (wordAt text at len) i 0 ≡ 0 → ⊥
-  word-nonzero i l e = all-at stem i stem-all (rw stem-length l) (sym (folded-at stem i) ∙ e)
+  word-nonzero : (i : ℕ) → i < len → getD (wordAt fold text at len) i 0 ≡ 0 → ⊥
+  word-nonzero i l e = all-at fold stem i stem-all (rw stem-length l) (sym (folded-at fold law stem i) ∙ e)
 
 -- folded bytes that names have are not zero
-all-folded : (s : Bytes) → allOf (nameByte folded) s ≡ true → allOf nonzero (map folded s) ≡ true
+all-folded : (fold : ℕ → ℕ) (s : Bytes) → allOf (nameByte fold) s ≡ true → allOf nonzero (map fold s) ≡ true
 unfolding allOf nameByte nonzero
-all-folded [] h = refl
-all-folded (b ∷ s) h =
-    and-make (and-left (not (eqb (folded b) 0)) (allOf (nameByte folded) s) h)
-    (all-folded s (and-right (not (eqb (folded b) 0)) (allOf (nameByte folded) s) h))
+all-folded fold [] h = refl
+all-folded fold (b ∷ s) h =
+    and-make (and-left (not (eqb (fold b) 0)) (allOf (nameByte fold) s) h)
+    (all-folded fold s (and-right (not (eqb (fold b) 0)) (allOf (nameByte fold) s) h))
 
 -- so the folded word of a name is fit for the name area
-pub word-fine : (text : Bytes) (at len : ℕ) → NameAt text at len → Fine (wordAt text at len)
-word-fine text at len h =
-    (omega (arith, word-length text at len h, name-fits text at len h), all-folded (part at len text) (name-bytes folded (part at len text) (h .1)))
+pub word-fine : (fold : ℕ → ℕ) → Folding fold → (text : Bytes) (at len : ℕ) → NameAt fold text at len → Fine (wordAt fold text at len)
+word-fine fold law text at len h =
+    (omega (arith, word-length fold law text at len h, name-fits fold law text at len h), all-folded fold (part at len text) (name-bytes fold (part at len text) (h .1)))
 
 -- row a of an area against that word: what is left past the first i bytes
 unfoldable pub left : Bytes → ℕ → Bytes → ℕ → Bool
 left area a w i = sameBytes (run nonzero (drop i (part (a * nameBytes) nameBytes area))) (drop i w)
 
-module _ (area : Bytes) (a : ℕ) (text : Bytes) (at len : ℕ) (low : a < names) (room : nameArea ≤ length area) (h : NameAt text at len) where
+module _ (fold : ℕ → ℕ) (law : Folding fold) (area : Bytes) (a : ℕ) (text : Bytes) (at len : ℕ) (low : a < names) (room : nameArea ≤ length area) (h : NameAt fold text at len) where
   -- the row and the word
   abbrev row : Bytes
   row = part (a * nameBytes) nameBytes area
 
   abbrev w : Bytes
-  w = wordAt text at len
+  w = wordAt fold text at len
 
   -- the row has 32 bytes
   row-length : length row ≡ nameBytes
@@ -123,15 +123,15 @@ module _ (area : Bytes) (a : ℕ) (text : Bytes) (at len : ℕ) (low : a < names
   row-at i l = getD-take nameBytes (drop (a * nameBytes) area) i 0 l ∙ getD-drop (a * nameBytes) area i 0
 
   -- one byte of each
-  left-step : (i : ℕ) → i < len → left area a w i ≡ eqb (getD area (a * nameBytes + i) 0) (folded (getD text (at + i) 0)) && left area a w (suc i)
+  left-step : (i : ℕ) → i < len → left area a w i ≡ eqb (getD area (a * nameBytes + i) 0) (fold (getD text (at + i) 0)) && left area a w (suc i)
   unfolding left
   left-step i l =
-      let m : i < nameBytes = omega (arith, name-fits text at len h) in
+      let m : i < nameBytes = omega (arith, name-fits fold law text at len h) in
       let p : i < length row = omega (arith, row-length) in
-      let q : i < length w = omega (arith, word-length text at len h) in
+      let q : i < length w = omega (arith, word-length fold law text at len h) in
       ap₂ (λ (x y : Bytes). sameBytes (run nonzero x) y) (drop-cons row i 0 p) (drop-cons w i 0 q)
-      ∙ same-step (getD row i 0) (getD w i 0) (drop (suc i) row) (drop (suc i) w) (word-nonzero text at len h i l)
-      ∙ ap₂ (λ (x y : ℕ). eqb x y && left area a w (suc i)) (row-at i m) (word-at text at len h i l)
+      ∙ same-step (getD row i 0) (getD w i 0) (drop (suc i) row) (drop (suc i) w) (word-nonzero fold law text at len h i l)
+      ∙ ap₂ (λ (x y : ℕ). eqb x y && left area a w (suc i)) (row-at i m) (word-at fold law text at len h i l)
 
   -- before the first byte all is left
   pub spells-none : sameBytes (nameAt area a) w ≡ left area a w 0
@@ -139,17 +139,17 @@ module _ (area : Bytes) (a : ℕ) (text : Bytes) (at len : ℕ) (low : a < names
   spells-none = refl
 
   -- an equal byte
-  pub spells-on : (r i x : ℕ) → r ≡ a * nameBytes → i < len → x ≡ folded (getD text (at + i) 0) → getD area (r + i) 0 ≡ x
+  pub spells-on : (r i x : ℕ) → r ≡ a * nameBytes → i < len → x ≡ fold (getD text (at + i) 0) → getD area (r + i) 0 ≡ x
       → sameBytes (nameAt area a) w ≡ left area a w i → sameBytes (nameAt area a) w ≡ left area a w (i + 1)
   spells-on r i x q l f e s =
-      let g : getD area (a * nameBytes + i) 0 ≡ folded (getD text (at + i) 0) = ap (λ (k : ℕ). getD area (k + i) 0) (sym q) ∙ e ∙ f in
+      let g : getD area (a * nameBytes + i) 0 ≡ fold (getD text (at + i) 0) = ap (λ (k : ℕ). getD area (k + i) 0) (sym q) ∙ e ∙ f in
       s ∙ left-step i l ∙ ap (λ (b : Bool). b && left area a w (suc i)) (eq-eqb _ _ g) ∙ ap (left area a w) (sym (add-one i))
 
   -- another byte
-  pub spells-off : (r i x : ℕ) → r ≡ a * nameBytes → i < len → x ≡ folded (getD text (at + i) 0) → (getD area (r + i) 0 ≡ x → ⊥)
+  pub spells-off : (r i x : ℕ) → r ≡ a * nameBytes → i < len → x ≡ fold (getD text (at + i) 0) → (getD area (r + i) 0 ≡ x → ⊥)
       → sameBytes (nameAt area a) w ≡ left area a w i → false ≡ sameBytes (nameAt area a) w
   spells-off r i x q l f e s =
-      let g : getD area (a * nameBytes + i) 0 ≡ folded (getD text (at + i) 0) → ⊥ =
+      let g : getD area (a * nameBytes + i) 0 ≡ fold (getD text (at + i) 0) → ⊥ =
       λ g. e (ap (λ (k : ℕ). getD area (k + i) 0) q ∙ g ∙ sym f) in
       sym (s ∙ left-step i l ∙ ap (λ (b : Bool). b && left area a w (suc i)) (ne-eqb _ _ g))
 
@@ -159,13 +159,13 @@ module _ (area : Bytes) (a : ℕ) (text : Bytes) (at len : ℕ) (low : a < names
   unfolding left
   spells-end r i q l m s =
       let e : i ≡ len = omega arith in
-      let f : drop len w ≡ [] = drop-of-length-le w {i = len} (omega (arith, word-length text at len h)) in
+      let f : drop len w ≡ [] = drop-of-length-le w {i = len} (omega (arith, word-length fold law text at len h)) in
       sym (s ∙ ap (left area a w) e ∙ ap (sameBytes (run nonzero (drop len row))) f ∙ same-end (drop len row) ∙ finish)
     where
       finish : eqb (length (drop len row)) 0 || eqb (getD (drop len row) 0 0) 0 ≡ eqb len nameBytes || eqb (getD area (r + len) 0) 0
       finish =
           let k : length (drop len row) ≡ nameBytes - len = length-drop len row ∙ ap (λ (n : ℕ). n - len) row-length in
-          let fits : len ≤ nameBytes = name-fits text at len h in
+          let fits : len ≤ nameBytes = name-fits fold law text at len h in
           either (eqb len nameBytes)
           (λ t.
           let g : len ≡ nameBytes = eqb-true len nameBytes t in
@@ -212,22 +212,22 @@ write-end old w r len e l h =
     ∙ ap (λ (x : ℕ). take r old ++ (padded w ++ drop x old)) (sym k)
 
 -- the word written into old from place r
-module _ (old text : Bytes) (r at len : ℕ) (h : NameAt text at len) (room : r + nameBytes ≤ length old) where
+module _ (fold : ℕ → ℕ) (law : Folding fold) (old text : Bytes) (r at len : ℕ) (h : NameAt fold text at len) (room : r + nameBytes ≤ length old) where
   -- one byte more
-  pub write-on : (cur : Bytes) (i x : ℕ) → i < len → x ≡ folded (getD text (at + i) 0) → cur ≡ paste old r (wordAt text at len) i
-      → set cur (r + i) x ≡ paste old r (wordAt text at len) (i + 1)
+  pub write-on : (cur : Bytes) (i x : ℕ) → i < len → x ≡ fold (getD text (at + i) 0) → cur ≡ paste old r (wordAt fold text at len) i
+      → set cur (r + i) x ≡ paste old r (wordAt fold text at len) (i + 1)
   write-on cur i x l e p =
-      let fits : len ≤ nameBytes = name-fits text at len h in
-      let n : length (wordAt text at len) ≡ len = word-length text at len h in
-      ap₂ (λ (c : Bytes) (y : ℕ). set c (r + i) y) p (e ∙ sym (word-at text at len h i l))
-      ∙ paste-suc old r (wordAt text at len) i 0 (omega arith) (omega arith)
-      ∙ ap (paste old r (wordAt text at len)) (sym (add-one i))
+      let fits : len ≤ nameBytes = name-fits fold law text at len h in
+      let n : length (wordAt fold text at len) ≡ len = word-length fold law text at len h in
+      ap₂ (λ (c : Bytes) (y : ℕ). set c (r + i) y) p (e ∙ sym (word-at fold law text at len h i l))
+      ∙ paste-suc old r (wordAt fold text at len) i 0 (omega arith) (omega arith)
+      ∙ ap (paste old r (wordAt fold text at len)) (sym (add-one i))
 
   -- and then the zeros
-  pub write-all : (a : ℕ) (cur last : Bytes) (i : ℕ) → r ≡ a * nameBytes → i ≤ len → len ≤ i → cur ≡ paste old r (wordAt text at len) i
-      → last ≡ cleared (r + len) (r + nameBytes) cur → last ≡ put (a * nameBytes) (padded (wordAt text at len)) old
+  pub write-all : (a : ℕ) (cur last : Bytes) (i : ℕ) → r ≡ a * nameBytes → i ≤ len → len ≤ i → cur ≡ paste old r (wordAt fold text at len) i
+      → last ≡ cleared (r + len) (r + nameBytes) cur → last ≡ put (a * nameBytes) (padded (wordAt fold text at len)) old
   write-all a cur last i q l m p e =
       let k : i ≡ len = omega arith in
-      e ∙ ap (cleared (r + len) (r + nameBytes)) (p ∙ ap (paste old r (wordAt text at len)) k)
-      ∙ write-end old (wordAt text at len) r len (word-length text at len h) (name-fits text at len h) room
-      ∙ ap (λ (x : ℕ). put x (padded (wordAt text at len)) old) q
+      e ∙ ap (cleared (r + len) (r + nameBytes)) (p ∙ ap (paste old r (wordAt fold text at len)) k)
+      ∙ write-end old (wordAt fold text at len) r len (word-length fold law text at len h) (name-fits fold law text at len h) room
+      ∙ ap (λ (x : ℕ). put x (padded (wordAt fold text at len)) old) q

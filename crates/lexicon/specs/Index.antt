@@ -9,7 +9,7 @@ use lib.ListN.{length, getD}
 use Rattle.limits.specs.Book.{names, nameBytes}
 use Rattle.sets.specs.Set.{pick}
 use Rattle.words.specs.Row.{part, put}
-use Rattle.grammar.specs.Bytes.{Bytes, folded}
+use Rattle.grammar.specs.Bytes.{Bytes}
 use Rattle.grammar.specs.Lines.{isName}
 use Rattle.tables.specs.Numbering.{sameBytes, place}
 use Rattle.tables.specs.Areas.{padded}
@@ -29,12 +29,12 @@ pub record Indexed (ns : List Bytes) (first prior : List ℕ) : Type 0 where
   pub distinct : (a b : ℕ) → a < b → b < length ns → sameBytes (getD ns a []) (getD ns b []) ≡ false
 
 -- the folded word of len bytes from place `at`
-abbrev pub wordAt : Bytes → ℕ → ℕ → Bytes
-wordAt text at len = map folded (part at len text)
+abbrev pub wordAt : (ℕ → ℕ) → Bytes → ℕ → ℕ → Bytes
+wordAt fold text at len = map fold (part at len text)
 
 -- a name stands there
-abbrev pub NameAt : Bytes → ℕ → ℕ → Type 0
-NameAt text at len = (at + len ≤ length text) × (isName folded (part at len text) ≡ true)
+abbrev pub NameAt : (ℕ → ℕ) → Bytes → ℕ → ℕ → Type 0
+NameAt fold text at len = (at + len ≤ length text) × (isName fold (part at len text) ≡ true)
 
 -- w is one of the names, or there is no room for another
 unfoldable pub settled : List Bytes → Bytes → Bool

@@ -9,6 +9,7 @@ ghost use Prim.Native.Nat.{_+_, _*_, _<_, _≤_};
 ghost use lib.ListN.{length, getD, set};
 ghost use Rattle.limits.specs.Book.{names, nameBytes, nameArea};
 ghost use Rattle.words.specs.Row.{put};
+ghost use Rattle.grammar.specs.Bytes.{letters};
 ghost use Rattle.scan.specs.Fold.{FoldTable};
 ghost use Rattle.scan.specs.Hash.{buckets, hashOf};
 ghost use Rattle.tables.specs.Numbering.{sameBytes, place};
@@ -17,8 +18,10 @@ ghost use Rattle.lexicon.specs.Index.{Indexed, NameAt, wordAt};
 
 // Whether the word of len bytes from place `at` of the text, folded, is name a.
 pub fn spells(spellings: &[u8], a: usize, text: &[u8], table: &[u8], at: usize, len: usize) -> bool
-    requires { ⌜ (a < names) × (nameArea ≤ length (now spellings)) × NameAt (now text) at len × FoldTable (now table) ⌝ }
-    ensures { λ r. ⌜ r ≡ sameBytes (nameAt (now (spellings .entry)) a) (wordAt (now (text .entry)) at len) ⌝ }
+    requires { ⌜ (a < names) × (nameArea ≤ length (now spellings))
+        × NameAt (letters (now table)) (now text) at len × FoldTable (now table) ⌝ }
+    ensures { λ r. ⌜ r ≡ sameBytes (nameAt (now (spellings .entry)) a)
+        (wordAt (letters (now (table .entry))) (now (text .entry)) at len) ⌝ }
 {
     let row = Book::name_at(a);
     let mut i = 0;
@@ -45,9 +48,12 @@ pub fn find(
     len: usize,
     bucket: usize,
 ) -> usize
-    requires { ⌜ (n ≤ names) × (nameArea ≤ length (now spellings)) × NameAt (now text) at len × FoldTable (now table) ⌝ }
-    requires { ⌜ Indexed (namesIn (now spellings) n) (now first) (now prior) × (bucket ≡ hashOf (wordAt (now text) at len)) ⌝ }
-    ensures { λ r. ⌜ r ≡ place (namesIn (now (spellings .entry)) n) (wordAt (now (text .entry)) at len) ⌝ }
+    requires { ⌜ (n ≤ names) × (nameArea ≤ length (now spellings))
+        × NameAt (letters (now table)) (now text) at len × FoldTable (now table) ⌝ }
+    requires { ⌜ Indexed (namesIn (now spellings) n) (now first) (now prior)
+        × (bucket ≡ hashOf (wordAt (letters (now table)) (now text) at len)) ⌝ }
+    ensures { λ r. ⌜ r ≡ place (namesIn (now (spellings .entry)) n)
+        (wordAt (letters (now (table .entry))) (now (text .entry)) at len) ⌝ }
 {
     let mut k = first[bucket] as usize;
     while k != 0 {
@@ -61,8 +67,10 @@ pub fn find(
 
 // Row a becomes that word, padded with zeros.
 pub fn write_name(spellings: &mut [u8], a: usize, text: &[u8], table: &[u8], at: usize, len: usize)
-    requires { ⌜ (a < names) × (nameArea ≤ length (now spellings)) × NameAt (now text) at len × FoldTable (now table) ⌝ }
-    ensures { λ r. ⌜ now (spellings .exit) ≡ put (a * nameBytes) (padded (wordAt (now (text .entry)) at len)) (now (spellings .entry)) ⌝ }
+    requires { ⌜ (a < names) × (nameArea ≤ length (now spellings))
+        × NameAt (letters (now table)) (now text) at len × FoldTable (now table) ⌝ }
+    ensures { λ r. ⌜ now (spellings .exit)
+        ≡ put (a * nameBytes) (padded (wordAt (letters (now (table .entry))) (now (text .entry)) at len)) (now (spellings .entry)) ⌝ }
 {
     let row = Book::name_at(a);
     let mut i = 0;
@@ -85,9 +93,11 @@ pub fn add(
     len: usize,
     bucket: usize,
 )
-    requires { ⌜ (n < names) × (nameArea ≤ length (now spellings)) × NameAt (now text) at len × FoldTable (now table) ⌝ }
+    requires { ⌜ (n < names) × (nameArea ≤ length (now spellings))
+        × NameAt (letters (now table)) (now text) at len × FoldTable (now table) ⌝ }
     requires { ⌜ (length (now first) ≡ buckets) × (length (now prior) ≡ names) × (bucket < buckets) ⌝ }
-    ensures area { λ r. ⌜ now (spellings .exit) ≡ put (n * nameBytes) (padded (wordAt (now (text .entry)) at len)) (now (spellings .entry)) ⌝ }
+    ensures area { λ r. ⌜ now (spellings .exit)
+        ≡ put (n * nameBytes) (padded (wordAt (letters (now (table .entry))) (now (text .entry)) at len)) (now (spellings .entry)) ⌝ }
     ensures firsts { λ r. ⌜ now (first .exit) ≡ set (now (first .entry)) bucket (n + 1) ⌝ }
     ensures priors { λ r. ⌜ now (prior .exit) ≡ set (now (prior .entry)) n (getD (now (first .entry)) bucket 0) ⌝ }
 {

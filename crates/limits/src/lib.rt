@@ -116,4 +116,20 @@ impl Refusal {
     pub const START_LOST: usize = 11;
 
     pub const LONG_WRITTEN: usize = 12;
+
+    // Does nothing: its contract ties each constant to its number in document 01.
+    pub fn numbers()
+        ensures area { λ r. do ⌜ (← ⟦Refusal::SHORT_AREA⟧ .entry) ≡ 1 ⌝ }
+        ensures text { λ r. do ⌜ (← ⟦Refusal::LONG_TEXT⟧ .entry) ≡ 2 ⌝ }
+        ensures mark { λ r. do ⌜ (← ⟦Refusal::MARK⟧ .entry) ≡ 3 ⌝ }
+        ensures last { λ r. do ⌜ (← ⟦Refusal::LAST_BYTE⟧ .entry) ≡ 4 ⌝ }
+        ensures line { λ r. do ⌜ (← ⟦Refusal::LINE⟧ .entry) ≡ 5 ⌝ }
+        ensures names { λ r. do ⌜ (← ⟦Refusal::NAMES⟧ .entry) ≡ 6 ⌝ }
+        ensures rules { λ r. do ⌜ (← ⟦Refusal::RULES⟧ .entry) ≡ 7 ⌝ }
+        ensures atoms { λ r. do ⌜ (← ⟦Refusal::ATOMS⟧ .entry) ≡ 8 ⌝ }
+        ensures folds { λ r. do ⌜ (← ⟦Refusal::FOLDS⟧ .entry) ≡ 9 ⌝ }
+        ensures formed { λ r. do ⌜ (← ⟦Refusal::ILL_FORMED⟧ .entry) ≡ 10 ⌝ }
+        ensures start { λ r. do ⌜ (← ⟦Refusal::START_LOST⟧ .entry) ≡ 11 ⌝ }
+        ensures written { λ r. do ⌜ (← ⟦Refusal::LONG_WRITTEN⟧ .entry) ≡ 12 ⌝ }
+    {}
 }

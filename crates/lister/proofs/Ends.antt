@@ -1,17 +1,36 @@
--- The end of a text that zeros follow: the test of one byte.
+-- A listing with its end: what is printed.
 -- Assumes nothing.
-use mathlib.Core.Path.{_≡_, ap}
-use mathlib.Core.Bool.{true, false, not}
+use mathlib.Core.Path.{_≡_, sym, ap, ap₂, _∙_}
+use mathlib.Core.Logic.{⊎-elim}
+use mathlib.Core.List.{List}
 use Prim.Native.Nat.{ℕ}
-use borrow.Author.Tests.{eq-eqb, ne-eqb}
-use Rattle.tables.specs.Areas.{nonzero}
+use native.Mathlib.Omega.{arith}
+use lib.ListN.{length}
+use borrow.Author.Tests.{eq-eqb}
+use Rattle.limits.specs.Book.{folds, listingBytes}
+use Rattle.sets.proofs.Logic.{pick-true}
+use Rattle.grammar.specs.Bytes.{Bytes, Folding}
+use Rattle.grammar.specs.Grammar.{joined}
+use Rattle.tables.specs.Reading.{Reading, bookOf}
+use Rattle.solver.specs.End.{listedEnd}
+use Rattle.hosting.specs.List.{ListOutcome, listCall}
+use Rattle.hosting.specs.Print.{printed, printCall}
+use Rattle.hosting.proofs.Ways.{Refused, Listed, way}
+use Rattle.hosting.proofs.Printing.{area-is}
 
--- a byte that is zero ends it
-pub zero-ends : (b : ℕ) → b ≡ 0 → nonzero b ≡ false
-unfolding nonzero
-zero-ends b e = ap not (eq-eqb b 0 e)
+module _ (fold : ℕ → ℕ) (folding : Folding fold) (t old : Bytes) (exact : length old ≡ listingBytes) {r : ListOutcome}
+    (e : r ≡ listCall fold t folds old) (none : r .number ≡ 0) {end : ℕ} (g : end ≡ listedEnd (r .number) (bookOf fold t) folds) where
+  -- the book is listed
+  listing : Listed fold t old r
+  listing = ⊎-elim (λ (w : Refused fold t old r). absurd (w .some none)) (λ (w : Listed fold t old r). w) (way fold folding t old (omega arith) r e)
 
--- another belongs to it
-pub other-goes-on : (b : ℕ) → (b ≡ 0 → ⊥) → nonzero b ≡ true
-unfolding nonzero
-other-goes-on b h = ap not (ne-eqb b 0 h)
+  -- the end of its text is that of what is printed
+  end-is : end ≡ length (printed fold t)
+  unfolding listedEnd printed
+  end-is =
+      g ∙ ap (λ (x : Reading). listedEnd (r .number) x folds) (listing .reads) ∙ pick-true _ 0 (eq-eqb (r .number) 0 none)
+      ∙ sym (ap (λ (ls : List Bytes). length (joined ls)) (listing .lines))
+
+  pub print-end : record { count = end; area = r .listing } ≡ printCall fold t
+  unfolding printCall
+  print-end = ap₂ (λ (i : ℕ) (a : Bytes). record { count = i; area = a }) end-is (area-is fold folding t old exact r e none)

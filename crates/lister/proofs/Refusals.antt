@@ -11,27 +11,28 @@ use Rattle.solving.specs.Listing.{decimal}
 use Rattle.hosting.specs.Print.{refusalLine}
 
 -- the two fields
-module _ (number place : ℕ) where
-  abbrev number-field : Bytes
-  number-field = bytes "DPL 0001 refused=" ++ decimal number
+abbrev number-field : ℕ → Bytes
+number-field number = bytes "DPL 0001 refused=" ++ decimal number
 
-  abbrev place-field : Bytes
-  place-field = bytes " line=" ++ decimal place
+abbrev place-field : ℕ → Bytes
+place-field place = bytes " line=" ++ decimal place
 
-  -- what is left of the line, put into an area with room for it
-  module _ (old : Bytes) (room : length (refusalLine number place) + 1 ≤ length old) where
-    -- before the first field
-    pub before-number : LineLeft (refusalLine number place) old number-field (place-field ++ (lineEnd ∷ [])) old 0
-    before-number = line-start (refusalLine number place) old room _ _ fields
-      where
-        fields : refusalLine number place ++ (lineEnd ∷ []) ≡ number-field ++ (place-field ++ (lineEnd ∷ []))
-        fields = unfold refusalLine in simp append-assoc refl
+-- what is left of the line before the first field, in an area with room for the line
+pub before-number : (number place : ℕ) (old : Bytes) → length (refusalLine number place) + 1 ≤ length old
+    → LineLeft (refusalLine number place) old (number-field number) (place-field place ++ (lineEnd ∷ [])) old 0
+before-number number place old room = line-start (refusalLine number place) old _ _ room fields
+  where
+    fields : refusalLine number place ++ (lineEnd ∷ []) ≡ number-field number ++ (place-field place ++ (lineEnd ∷ []))
+    fields = unfold refusalLine in simp append-assoc refl
 
-    -- after each
-    module _ (text : Bytes) (i : ℕ) (p : text ≡ put 0 number-field old) (q : i ≡ 0 + length number-field) where
-      pub after-number : LineLeft (refusalLine number place) old place-field (lineEnd ∷ []) text i
-      after-number = part-put _ old room _ _ old 0 before-number _ _ text i refl p q
+-- after each
+module _ (number place : ℕ) {old text new : Bytes} {i k : ℕ} where
+  pub after-number : LineLeft (refusalLine number place) old (number-field number) (place-field place ++ (lineEnd ∷ [])) text i
+      → new ≡ put i (number-field number) text → k ≡ i + length (number-field number)
+      → LineLeft (refusalLine number place) old (place-field place) (lineEnd ∷ []) new k
+  after-number s p q = part-put s _ _ refl p q
 
-      pub after-place : (text₂ : Bytes) (end : ℕ) → text₂ ≡ put i place-field text → end ≡ i + length place-field
-          → LineLeft (refusalLine number place) old (lineEnd ∷ []) [] text₂ end
-      after-place text₂ end p₂ q₂ = part-put _ old room _ _ text i after-number _ _ text₂ end refl p₂ q₂
+  pub after-place : LineLeft (refusalLine number place) old (place-field place) (lineEnd ∷ []) text i
+      → new ≡ put i (place-field place) text → k ≡ i + length (place-field place)
+      → LineLeft (refusalLine number place) old (lineEnd ∷ []) [] new k
+  after-place s p q = part-put s _ _ refl p q

@@ -2,20 +2,25 @@
 use limits::Book;
 ghost use mathlib.Core.Path.{_≡_};
 ghost use Rattle.grammar.specs.Bytes.{folded};
+ghost use Rattle.tables.specs.Reading.{bookOf};
+ghost use Rattle.solver.specs.End.{listedEnd};
 ghost use Rattle.hosting.specs.List.{listCall};
 ghost use Rattle.hosting.specs.Print.{printCall};
 
 pub mod parts;
 
-// The number of a refusal with its line, 0 for none.
+// The number of a refusal with its line, 0 for none, and where the text of the listing ends, 0 for a refusal.
 pub struct Verdict {
     pub number: usize,
     pub line: usize,
+    pub end: usize,
 }
 
 // Solves the book in areas on its own stack; only the listing area is lent.
 pub fn list(text: &[u8], folds: usize, listing: &mut [u8]) -> Verdict
-    ensures { λ r. ⌜ record { number = r .number; line = r .line; listing = now (listing .exit) } ≡ listCall folded (now (text .entry)) folds (now (listing .entry)) ⌝ }
+    ensures listed { λ r. ⌜ record { number = r .number; line = r .line; listing = now (listing .exit) }
+        ≡ listCall folded (now (text .entry)) folds (now (listing .entry)) ⌝ }
+    ensures end { λ r. ⌜ r .end ≡ listedEnd (r .number) (bookOf folded (now (text .entry))) folds ⌝ }
 {
     let mut spellings = [0u8; Book::NAME_AREA];
     let mut heads = [0u16; Book::RULES];
@@ -38,8 +43,9 @@ pub fn list(text: &[u8], folds: usize, listing: &mut [u8]) -> Verdict
         true,
     );
     Verdict {
-        number: r.number,
-        line: r.line,
+        number: r.answer.number,
+        line: r.answer.line,
+        end: r.end,
     }
 }
 
@@ -49,7 +55,7 @@ pub fn print(text: &[u8], out: &mut [u8; Book::LISTING_BYTES]) -> usize
 {
     let r = list(text, Book::FOLDS, out);
     if r.number == 0 {
-        return parts::text_len(out);
+        return r.end;
     }
     let end = parts::put_refusal(r.number, r.line, out);
     rows::clear::clear_tail8(out, end, Book::LISTING_BYTES);

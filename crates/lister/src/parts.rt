@@ -1,4 +1,4 @@
-// The parts of what is printed: the line of a refusal, and the end of a listing's text.
+// The line of a refusal, as it is printed.
 use listing::head::put_field;
 use scan::cursor::Cursor;
 ghost use mathlib.Core.Path.{_≡_};
@@ -6,8 +6,6 @@ ghost use mathlib.Core.List.{[], _∷_, _++_};
 ghost use Prim.Native.Nat.{_+_, _≤_};
 ghost use lib.ListN.{length};
 ghost use Rattle.grammar.specs.Bytes.{lineEnd};
-ghost use Rattle.grammar.specs.Lines.{span};
-ghost use Rattle.tables.specs.Areas.{nonzero};
 ghost use Rattle.tables.specs.Begun.{begun};
 ghost use Rattle.hosting.specs.Print.{refusalLine};
 
@@ -21,18 +19,4 @@ pub fn put_refusal(number: usize, line: usize, text: &mut [u8]) -> usize
     let end = put_field(b" line=", line, text, after);
     text[end] = Cursor::LINE_END;
     end + 1
-}
-
-// How many bytes stand before the first zero byte; all, where there is none.
-pub fn text_len(area: &[u8]) -> usize
-    ensures { λ r. ⌜ r ≡ span nonzero (now (area .entry)) ⌝ }
-{
-    let mut i = 0;
-    while i < area.len() {
-        if area[i] == 0 {
-            break;
-        }
-        i += 1;
-    }
-    i
 }

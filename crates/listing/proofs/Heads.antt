@@ -40,45 +40,54 @@ module _ (name : Bytes) (n : ℕ) (old : Bytes) (at : ℕ) (fits : at + length (
       pub field-next : j ≡ at + length (name ++ decimal n)
       field-next = left-end old at _ fits _ new j whole refl
 
--- the four fields
-module _ (n held folds rounds : ℕ) where
-  abbrev names-field : Bytes
-  names-field = bytes "DPL 0001 names=" ++ decimal n
+-- the four fields, each with what follows it
+abbrev names-field : ℕ → Bytes
+names-field n = bytes "DPL 0001 names=" ++ decimal n
 
-  abbrev held-field : Bytes
-  held-field = bytes " held=" ++ decimal held
+abbrev held-field : ℕ → Bytes
+held-field n = bytes " held=" ++ decimal n
 
-  abbrev folds-field : Bytes
-  folds-field = bytes " folds=" ++ decimal folds
+abbrev folds-field : ℕ → Bytes
+folds-field n = bytes " folds=" ++ decimal n
 
-  abbrev rounds-field : Bytes
-  rounds-field = bytes " rounds=" ++ decimal rounds
+abbrev rounds-field : ℕ → Bytes
+rounds-field n = bytes " rounds=" ++ decimal n
 
-  -- what is left of the line, put into an area with room for it
-  module _ (old : Bytes) (room : length (headLine n held folds rounds) + 1 ≤ length old) where
-    abbrev Rest : Bytes → Bytes → Bytes → ℕ → Type 0
-    Rest = LineLeft (headLine n held folds rounds) old
+abbrev past-folds : ℕ → Bytes
+past-folds rounds = rounds-field rounds ++ (lineEnd ∷ [])
 
-    -- before the first field
-    pub before-names : Rest names-field (held-field ++ (folds-field ++ (rounds-field ++ (lineEnd ∷ [])))) old 0
-    before-names = line-start (headLine n held folds rounds) old room _ _ fields
-      where
-        fields : headLine n held folds rounds ++ (lineEnd ∷ []) ≡ names-field ++ (held-field ++ (folds-field ++ (rounds-field ++ (lineEnd ∷ []))))
-        fields = unfold headLine in simp append-assoc refl
+abbrev past-held : ℕ → ℕ → Bytes
+past-held folds rounds = folds-field folds ++ past-folds rounds
 
-    -- after each
-    module _ (text : Bytes) (i : ℕ) (p : text ≡ put 0 names-field old) (q : i ≡ 0 + length names-field) where
-      pub after-names : Rest held-field (folds-field ++ (rounds-field ++ (lineEnd ∷ []))) text i
-      after-names = part-put _ old room _ _ old 0 before-names _ _ text i refl p q
+abbrev past-names : ℕ → ℕ → ℕ → Bytes
+past-names held folds rounds = held-field held ++ past-held folds rounds
 
-      module _ (text₂ : Bytes) (j : ℕ) (p₂ : text₂ ≡ put i held-field text) (q₂ : j ≡ i + length held-field) where
-        pub after-held : Rest folds-field (rounds-field ++ (lineEnd ∷ [])) text₂ j
-        after-held = part-put _ old room _ _ text i after-names _ _ text₂ j refl p₂ q₂
+-- what is left of the line before the first field, in an area with room for the line
+pub before-names : (n held folds rounds : ℕ) (old : Bytes) → length (headLine n held folds rounds) + 1 ≤ length old
+    → LineLeft (headLine n held folds rounds) old (names-field n) (past-names held folds rounds) old 0
+before-names n held folds rounds old room = line-start (headLine n held folds rounds) old _ _ room fields
+  where
+    fields : headLine n held folds rounds ++ (lineEnd ∷ []) ≡ names-field n ++ past-names held folds rounds
+    fields = unfold headLine in simp append-assoc refl
 
-        module _ (text₃ : Bytes) (k : ℕ) (p₃ : text₃ ≡ put j folds-field text₂) (q₃ : k ≡ j + length folds-field) where
-          pub after-folds : Rest rounds-field (lineEnd ∷ []) text₃ k
-          after-folds = part-put _ old room _ _ text₂ j after-held _ _ text₃ k refl p₃ q₃
+-- after each
+module _ (n held folds rounds : ℕ) {old text new : Bytes} {i k : ℕ} where
+  pub after-names : LineLeft (headLine n held folds rounds) old (names-field n) (past-names held folds rounds) text i
+      → new ≡ put i (names-field n) text → k ≡ i + length (names-field n)
+      → LineLeft (headLine n held folds rounds) old (held-field held) (past-held folds rounds) new k
+  after-names s p q = part-put s _ _ refl p q
 
-          pub after-rounds : (text₄ : Bytes) (end : ℕ) → text₄ ≡ put k rounds-field text₃ → end ≡ k + length rounds-field
-              → Rest (lineEnd ∷ []) [] text₄ end
-          after-rounds text₄ end p₄ q₄ = part-put _ old room _ _ text₃ k after-folds _ _ text₄ end refl p₄ q₄
+  pub after-held : LineLeft (headLine n held folds rounds) old (held-field held) (past-held folds rounds) text i
+      → new ≡ put i (held-field held) text → k ≡ i + length (held-field held)
+      → LineLeft (headLine n held folds rounds) old (folds-field folds) (past-folds rounds) new k
+  after-held s p q = part-put s _ _ refl p q
+
+  pub after-folds : LineLeft (headLine n held folds rounds) old (folds-field folds) (past-folds rounds) text i
+      → new ≡ put i (folds-field folds) text → k ≡ i + length (folds-field folds)
+      → LineLeft (headLine n held folds rounds) old (rounds-field rounds) (lineEnd ∷ []) new k
+  after-folds s p q = part-put s _ _ refl p q
+
+  pub after-rounds : LineLeft (headLine n held folds rounds) old (rounds-field rounds) (lineEnd ∷ []) text i
+      → new ≡ put i (rounds-field rounds) text → k ≡ i + length (rounds-field rounds)
+      → LineLeft (headLine n held folds rounds) old (lineEnd ∷ []) [] new k
+  after-rounds s p q = part-put s _ _ refl p q

@@ -19,6 +19,7 @@ use Rattle.tables.proofs.Encoding.{length-namesFrom, getD-namesFrom, length-beg
 use Rattle.rows.specs.Clear.{cleared}
 use Rattle.solving.specs.Listing.{headLine, heldNames, listingLines, listed}
 use Rattle.solving.proofs.Decimal.{listing-fits}
+use Rattle.listing.specs.Write.{Listing, listingOf}
 
 -- no name is longer than its row
 names-short : (area : Bytes) (n a : ℕ) → a < n → length (getD (namesIn area n) a []) ≤ nameBytes
@@ -32,6 +33,11 @@ names-short area n a l =
       ap length (run-past nonzero row),
       length-take nameBytes (drop ((0 + a) * nameBytes) area),
     )
+
+-- listings that are the same in every part
+same-listing : {i i′ j j′ : ℕ} {a a′ : Bytes} → i ≡ i′ → j ≡ j′ → a ≡ a′
+    → _≡_ {A = Listing} (record { held = i; end = j; area = a }) (record { held = i′; end = j′; area = a′ })
+same-listing p q r = cc
 
 module _ (area : Bytes) (n : ℕ) (f : Set) (k rounds held : ℕ) (old : Bytes) (h : n ≤ names) (c : k ≤ folds) (d : rounds ≤ atoms + 1)
     (g : listingBytes ≤ length old) (e : held ≡ count n f) where
@@ -79,22 +85,23 @@ module _ (area : Bytes) (n : ℕ) (f : Set) (k rounds held : ℕ) (old : Bytes) 
 
     -- they are put, up to the end
     module _ (new : Bytes) (end : ℕ) (u : new ≡ put at lines text) (v : end ≡ at + length lines) where
-      -- the end is within the area's stated size
-      pub end-fits : end ≤ listingBytes
-      end-fits = omega (arith, fits, length-append line lines, past-line)
-
-      -- which the area has
-      pub area-long : listingBytes ≤ length new
-      area-long = omega (arith, ap length u, length-put at lines text names-room, line-length)
+      -- the end is within the area's stated size, which the area has
+      pub area-fits : (end ≤ listingBytes) × (listingBytes ≤ length new)
+      area-fits = (
+        omega (arith, fits, length-append line lines, past-line),
+        omega (arith, ap length u, length-put at lines text names-room, line-length),
+      )
 
       -- the text is put
       both : new ≡ begun (line ++ lines) old
       both = u ∙ ap₂ (λ (i : ℕ) (t : Bytes). put i lines t) past-line p ∙ put-begun line lines old
 
-      -- and zeros after it
-      pub listing-done : (last : Bytes) → last ≡ cleared end listingBytes new → last ≡ listed (namesIn area n) f k rounds old
-      unfolding listed
+      -- and zeros after it: the listing
+      pub listing-done : (last : Bytes) → last ≡ cleared end listingBytes new
+          → record { held = held; end = end; area = last } ≡ listingOf (namesIn area n) f k rounds old
+      unfolding listingOf listed
       listing-done last z =
           let m : end ≡ length (line ++ lines) = omega (arith, length-append line lines, past-line) in
-          z ∙ ap₂ (λ (i : ℕ) (t : Bytes). cleared i listingBytes t) m both ∙ begun-filled listingBytes (line ++ lines) old fits
-          ∙ ap (λ (w : Bytes). filled listingBytes w old) whole
+          same-listing (e ∙ ap (λ (i : ℕ). count i f) (sym (length-namesFrom area n 0))) (m ∙ ap length whole)
+          (z ∙ ap₂ (λ (i : ℕ) (t : Bytes). cleared i listingBytes t) m both ∙ begun-filled listingBytes (line ++ lines) old fits
+          ∙ ap (λ (w : Bytes). filled listingBytes w old) whole)

@@ -29,7 +29,8 @@ pub fn put_names(spellings: &[u8], n: usize, model: &[u64], text: &mut [u8], at:
     requires { ⌜ (n ≤ names) × (nameArea ≤ length (now spellings)) × (rowWords ≤ length (now model)) ⌝ }
     requires { ⌜ at + length (joined (heldNames (namesIn (now spellings) n) (modelIn (now model)))) ≤ length (now text) ⌝ }
     ensures next { λ r. ⌜ r ≡ at + length (joined (heldNames (namesIn (now (spellings .entry)) n) (modelIn (now (model .entry))))) ⌝ }
-    ensures text { λ r. ⌜ now (text .exit) ≡ put at (joined (heldNames (namesIn (now (spellings .entry)) n) (modelIn (now (model .entry))))) (now (text .entry)) ⌝ }
+    ensures text { λ r. ⌜ now (text .exit)
+        ≡ put at (joined (heldNames (namesIn (now (spellings .entry)) n) (modelIn (now (model .entry))))) (now (text .entry)) ⌝ }
 {
     let mut o = at;
     let mut a = rows::walk::next(model, 0, Book::ROW_WORDS, 0);

@@ -46,13 +46,10 @@ pub fn begin(count: usize, all: &mut [u64], any: &mut [u64], model: &mut [u64], 
 
 // Rule j at its home: its body becomes the home's row; where it has none, the home joins the start set. Returns whether it has a body.
 fn place(bodies: &[u64], j: usize, home: usize, all: &mut [u64], model: &mut [u64]) -> bool
-    requires { ⌜ (j < rules) × (home < atoms) × (bodyArea ≤ length (now bodies)) × (rowArea ≤ length (now all))
-        × (rowWords ≤ length (now model)) ⌝ }
+    requires { ⌜ (j < rules) × (home < atoms) × (bodyArea ≤ length (now bodies)) × (rowArea ≤ length (now all)) × (rowWords ≤ length (now model)) ⌝ }
     ensures body { λ r. ⌜ r ≡ exists (bodyWords * wordBits) (rowIn bodyWords (now (bodies .entry)) j) ⌝ }
-    ensures all { λ r. ⌜ now (all .exit)
-        ≡ pick r (withRow home (rowIn bodyWords (now (bodies .entry)) j) (now (all .entry))) (now (all .entry)) ⌝ }
-    ensures model { λ r. ⌜ now (model .exit)
-        ≡ pick r (now (model .entry)) (withModel (union (modelIn (now (model .entry))) (only home)) (now (model .entry))) ⌝ }
+    ensures all { λ r. ⌜ now (all .exit) ≡ pick r (withRow home (rowIn bodyWords (now (bodies .entry)) j) (now (all .entry))) (now (all .entry)) ⌝ }
+    ensures model { λ r. ⌜ now (model .exit) ≡ pick r (now (model .entry)) (withModel (union (modelIn (now (model .entry))) (only home)) (now (model .entry))) ⌝ }
 {
     let from = Book::body_at(j);
     if rows::read::empty(bodies, from, Book::BODY_WORDS) {

@@ -11,21 +11,22 @@ use lib.ListN.{length, take, drop, replicate, length-map}
 use borrow.Author.Tests.{lt-ltb, eqb-true, eqb-false, ne-eqb}
 use Rattle.limits.specs.Book.{textBytes, names, nameBytes, rules, nameArea, bodyWords, bodyArea}
 use Rattle.sets.proofs.Logic.{either, or-left, or-right, pick-true, pick-false}
-use Rattle.grammar.specs.Bytes.{Bytes, folded}
+use Rattle.program.specs.Program.{Rule}
+use Rattle.grammar.specs.Bytes.{Bytes, letters}
 use Rattle.grammar.specs.Grammar.{Clause}
 use Rattle.scan.specs.Hash.{buckets}
 use Rattle.tables.specs.Numbering.{namesOf, numbered}
-use Rattle.tables.specs.Reading.{Reading, read, refused, marked, ended, reading}
+use Rattle.tables.specs.Reading.{Reading, read, refused, marked, ended, bookOf, reading}
 use Rattle.tables.specs.Areas.{Areas, Outcome, filled, nameRows, headRows, bodyRows, filledWith, tablesOf, short, refusal, outcome, readCall, namesFrom}
 use Rattle.tables.specs.Begun.{begun}
 use Rattle.tables.proofs.Numbering.{names-none, heads-length, bodies-length}
-use Rattle.tables.proofs.Judging.{book-lines, book-unended, book-unmarked, reading-long, reading-short}
+use Rattle.tables.proofs.Judging.{book-lines, reading-long, reading-short}
 use Rattle.tables.proofs.Encoding.{begun-none, used, length-nameRows, not-short}
 use Rattle.rows.specs.Clear.{cleared}
 use Rattle.lexicon.proofs.Entering.{indexed-none}
-use Rattle.clause.specs.Tables.{Named}
+use Rattle.clause.specs.Found.{lexiconOf, Named}
 use Rattle.reader.specs.declared.Answer.{Answer}
-use Rattle.reader.specs.State.{Booked, Stayed, Lined, allLines}
+use Rattle.reader.specs.State.{Tables, tablesAt, Booked, Stayed, Lined, allLines}
 
 -- what the call answers and leaves
 abbrev pub gives : Answer → Bytes → List ℕ → List ℕ → Outcome
@@ -44,8 +45,8 @@ unfolding refusal
 refusal-none k old = ap (λ (a : Areas). record { answer = record { number = k; line = 0; names = 0; rules = 0 }; areas = a })
     (pick-true old (filledWith [] [] old) refl)
 
-module _ (t area : Bytes) (heads bodies : List ℕ) where
-  -- short areas
+-- The call: its areas are too short, the text is too long, or it is read.
+module _ (fold : ℕ → ℕ) (t area : Bytes) (heads bodies : List ℕ) where
   shorter : (length area < nameArea) ⊎ ((length heads < rules) ⊎ (length bodies < bodyArea)) → short (lent area heads bodies) ≡ true
   unfolding short
   shorter =
@@ -56,43 +57,37 @@ module _ (t area : Bytes) (heads bodies : List ℕ) where
 
   pub call-short : (r : Answer) → r ≡ record { number = 1; line = 0; names = 0; rules = 0 }
       → (length area < nameArea) ⊎ ((length heads < rules) ⊎ (length bodies < bodyArea))
-      → gives r area heads bodies ≡ readCall folded t (lent area heads bodies)
+      → gives r area heads bodies ≡ readCall fold t (lent area heads bodies)
   unfolding readCall
   call-short r e s =
       ap (λ (x : Answer). gives x area heads bodies) e ∙ sym (refusal-none 1 (lent area heads bodies))
-      ∙ sym (pick-true (refusal 1 0 (lent area heads bodies)) (outcome (reading folded t) (lent area heads bodies)) (shorter s))
+      ∙ sym (pick-true (refusal 1 0 (lent area heads bodies)) (outcome (reading fold t) (lent area heads bodies)) (shorter s))
+
+  -- refused before any line, where the text comes to that
+  pub refuses : (k : ℕ) (r : Answer) → r ≡ record { number = k; line = 0; names = 0; rules = 0 } → (x : Reading) → x ≡ refused k 0
+      → gives r area heads bodies ≡ outcome x (lent area heads bodies)
+  unfolding outcome
+  refuses k r e x q =
+      ap (λ (x : Answer). gives x area heads bodies) e ∙ sym (refusal-none k (lent area heads bodies))
+      ∙ sym (ap (λ (y : Reading). outcome y (lent area heads bodies)) q)
 
   -- long enough
   module _ (la : nameArea ≤ length area) (lh : rules ≤ length heads) (lb : bodyArea ≤ length bodies) where
-    call-is : (x : Reading) → reading folded t ≡ x → readCall folded t (lent area heads bodies) ≡ outcome x (lent area heads bodies)
+    call-is : readCall fold t (lent area heads bodies) ≡ outcome (reading fold t) (lent area heads bodies)
     unfolding readCall
-    call-is x e =
-        pick-false (refusal 1 0 (lent area heads bodies)) (outcome (reading folded t) (lent area heads bodies)) (not-short (lent area heads bodies) la lh lb)
-        ∙ ap (λ (y : Reading). outcome y (lent area heads bodies)) e
-
-    -- refused before any line
-    refuses : (k : ℕ) (r : Answer) → r ≡ record { number = k; line = 0; names = 0; rules = 0 } → reading folded t ≡ refused k 0
-        → gives r area heads bodies ≡ readCall folded t (lent area heads bodies)
-    unfolding outcome
-    refuses k r e q =
-        ap (λ (x : Answer). gives x area heads bodies) e ∙ sym (refusal-none k (lent area heads bodies)) ∙ sym (call-is (refused k 0) q)
+    call-is =
+        pick-false (refusal 1 0 (lent area heads bodies)) (outcome (reading fold t) (lent area heads bodies)) (not-short (lent area heads bodies) la lh lb)
 
     pub call-long : (r : Answer) → r ≡ record { number = 2; line = 0; names = 0; rules = 0 } → textBytes < length t
-        → gives r area heads bodies ≡ readCall folded t (lent area heads bodies)
-    call-long r e l = refuses 2 r e (reading-long folded t l)
+        → gives r area heads bodies ≡ readCall fold t (lent area heads bodies)
+    call-long r e l = refuses 2 r e (reading fold t) (reading-long fold t l) ∙ sym call-is
 
-    module _ (size : length t ≤ textBytes) where
-      pub call-unmarked : (r : Answer) → r ≡ record { number = 3; line = 0; names = 0; rules = 0 } → marked t ≡ false
-          → gives r area heads bodies ≡ readCall folded t (lent area heads bodies)
-      call-unmarked r e l = refuses 3 r e (reading-short folded t size ∙ book-unmarked folded t l)
-
-      module _ (m : marked t ≡ true) where
-        pub call-unended : (r : Answer) → r ≡ record { number = 4; line = 0; names = 0; rules = 0 } → ended t ≡ false
-            → gives r area heads bodies ≡ readCall folded t (lent area heads bodies)
-        call-unended r e l = refuses 4 r e (reading-short folded t size ∙ book-unended folded t m l)
-
-        lines-read : ended t ≡ true → reading folded t ≡ allLines t
-        lines-read d = reading-short folded t size ∙ book-lines folded t m d
+    -- read by a table whose letters these are
+    pub call-read : (table : List ℕ) → letters table ≡ fold → length t ≤ textBytes → (o : Outcome)
+        → o ≡ outcome (bookOf (letters table) t) (lent area heads bodies) → o ≡ readCall fold t (lent area heads bodies)
+    call-read table same size o e =
+        e ∙ ap (λ (f : ℕ → ℕ). outcome (bookOf f t) (lent area heads bodies)) same
+        ∙ ap (λ (x : Reading). outcome x (lent area heads bodies)) (sym (reading-short fold t size)) ∙ sym call-is
 
 -- no clauses yet
 no-rows : nameRows [] ≡ []
@@ -110,7 +105,7 @@ no-bodies : bodyRows (map (numbered (namesOf [])) []) ≡ []
 unfolding bodyRows
 no-bodies = refl
 
-named-none : (area : Bytes) → nameArea ≤ length area → Named [] 0 area (replicate buckets 0) (replicate names 0)
+named-none : (area : Bytes) → nameArea ≤ length area → Named [] (lexiconOf 0 area (replicate buckets 0) (replicate names 0))
 unfolding namesFrom
 named-none area l =
     record {
@@ -124,10 +119,10 @@ named-none area l =
     }
 
 pub booked-none : (area : Bytes) (heads bodies : List ℕ) → nameArea ≤ length area → rules ≤ length heads → bodyArea ≤ length bodies
-    → Booked [] 0 0 area (replicate buckets 0) (replicate names 0) heads bodies
+    → Booked [] (tablesAt 0 0 area (replicate buckets 0) (replicate names 0) heads bodies)
 booked-none area heads bodies la lh lb =
     record {
-      named = subst (λ (ns : List Bytes). Named ns 0 area (replicate buckets 0) (replicate names 0)) (sym names-none) (named-none area la);
+      named = subst (λ (ns : List Bytes). Named ns (lexiconOf 0 area (replicate buckets 0) (replicate names 0))) (sym names-none) (named-none area la);
       count = refl;
       few = omega arith;
       heads-long = lh;
@@ -146,13 +141,20 @@ cleared-filled size at xs old new p e q =
     ∙ ap (λ (s : List ℕ). xs ++ (replicate (size - length xs) 0 ++ s)) q
 
 -- The lines are read, and the areas cleared from their first unused rows on.
-module _ (t : Bytes) (number line n m : ℕ) (area : Bytes) (first prior heads bodies : List ℕ) (l : Lined t number line n m area first prior heads bodies) where
+module _ (fold : ℕ → ℕ) (t : Bytes) (number line : ℕ) (y : Tables) (l : Lined fold t number line y) where
   by-number : {X : Type 0} → (number ≡ 0 → X) → ((number ≡ 0 → ⊥) → X) → X
   by-number f g = either (eqb number 0) (λ e. f (eqb-true number 0 e)) (λ e. g (eqb-false number 0 e))
 
+  abbrev n : ℕ
+  n = y .lexicon .count
+
+  abbrev m : ℕ
+  m = y .count
+
   -- the areas then
   abbrev left : Areas
-  left = lent (cleared (n * nameBytes) nameArea area) (cleared m rules heads) (cleared (m * bodyWords) bodyArea bodies)
+  left =
+      lent (cleared (n * nameBytes) nameArea (y .lexicon .area)) (cleared m rules (y .heads)) (cleared (m * bodyWords) bodyArea (y .bodies))
 
   -- the counts
   counts : (n ≤ names) × (m ≤ rules)
@@ -160,103 +162,72 @@ module _ (t : Bytes) (number line n m : ℕ) (area : Bytes) (first prior heads b
       by-number (λ z. let b = l .reads z .1 .2 in (b .named .few, b .few))
       (λ z. let r = l .refuses z in (omega (arith, r .2), omega (arith, r .3)))
 
-  module _ (area₀ : Bytes) (heads₀ bodies₀ : List ℕ) (s : Stayed area₀ area heads₀ heads bodies₀ bodies) where
+  module _ (x : Tables) (s : Stayed x y) where
+    abbrev old : Areas
+    old = lent (x .lexicon .area) (x .heads) (x .bodies)
+
     -- a book
-    after-read : (cs : List Clause) → Booked cs n m area first prior heads bodies
-        → left
-        ≡ tablesOf cs (lent area₀ heads₀ bodies₀)
+    after-read : (cs : List Clause) → Booked cs y → left ≡ tablesOf cs old
     unfolding tablesOf filledWith
     after-read cs b =
-        let k : m ≡ length (map (numbered (namesOf cs)) cs) = b .count ∙ sym (length-map cs (numbered (namesOf cs))) in
+        let rs : List (Rule ℕ) = map (numbered (namesOf cs)) cs in
+        let k : m ≡ length rs = b .count ∙ sym (length-map cs (numbered (namesOf cs))) in
         let na : n * nameBytes ≡ length (nameRows (namesOf cs)) =
-        ap (λ (x : ℕ). x * nameBytes) (b .named .count) ∙ sym (length-nameRows (namesOf cs) (λ a j. b .named .fine a j .0)) in
-        let hb : left
-        ≡ lent (cleared (n * nameBytes) nameArea area) (filled rules (headRows (map (numbered (namesOf cs)) cs)) heads₀)
-        (filled bodyArea (bodyRows (map (numbered (namesOf cs)) cs)) bodies₀) =
-        ap₂ (lent (cleared (n * nameBytes) nameArea area))
-        (cleared-filled rules m (headRows (map (numbered (namesOf cs)) cs)) heads₀ heads (k ∙ sym (heads-length (map (numbered (namesOf cs)) cs)))
-        (b .head-rows) (s .head-kept .past))
-        (cleared-filled bodyArea (m * bodyWords) (bodyRows (map (numbered (namesOf cs)) cs)) bodies₀ bodies
-        (ap (λ (x : ℕ). x * bodyWords) k ∙ sym (bodies-length (map (numbered (namesOf cs)) cs))) (b .body-rows) (s .body-kept .past)) in
-        hb
-        ∙ ap (λ (x : Bytes). lent x (filled rules (headRows (map (numbered (namesOf cs)) cs)) heads₀)
-        (filled bodyArea (bodyRows (map (numbered (namesOf cs)) cs)) bodies₀))
-        (cleared-filled nameArea (n * nameBytes) (nameRows (namesOf cs)) area₀ area na (b .named .rows) (s .kept .past))
+        ap (λ (i : ℕ). i * nameBytes) (b .named .count) ∙ sym (length-nameRows (namesOf cs) (λ a j. b .named .fine a j .0)) in
+        ap₂ (lent (cleared (n * nameBytes) nameArea (y .lexicon .area)))
+        (cleared-filled rules m (headRows rs) (x .heads) (y .heads) (k ∙ sym (heads-length rs)) (b .head-rows) (s .head-kept .past))
+        (cleared-filled bodyArea (m * bodyWords) (bodyRows rs) (x .bodies) (y .bodies)
+        (ap (λ (i : ℕ). i * bodyWords) k ∙ sym (bodies-length rs)) (b .body-rows) (s .body-kept .past))
+        ∙ ap (λ (a : Bytes). lent a (filled rules (headRows rs) (x .heads)) (filled bodyArea (bodyRows rs) (x .bodies)))
+        (cleared-filled nameArea (n * nameBytes) (nameRows (namesOf cs)) (x .lexicon .area) (y .lexicon .area) na (b .named .rows) (s .kept .past))
 
     -- a refused line
-    after-refused : n ≡ 0 → m ≡ 0
-        → left
-        ≡ filledWith [] [] (lent area₀ heads₀ bodies₀)
+    after-refused : n ≡ 0 → m ≡ 0 → left ≡ filledWith [] [] old
     unfolding filledWith nameRows headRows bodyRows
     after-refused p q =
         let na : n * nameBytes ≡ 0 = omega arith in
         let mb : m * bodyWords ≡ 0 = omega arith in
-        ap₂ (lent (cleared (n * nameBytes) nameArea area))
-        (cleared-filled rules m [] heads₀ heads q (none-begun heads) (s .head-kept .past))
-        (cleared-filled bodyArea (m * bodyWords) [] bodies₀ bodies mb (none-begun bodies) (s .body-kept .past))
-        ∙ ap (λ (x : Bytes). lent x (filled rules [] heads₀) (filled bodyArea [] bodies₀))
-        (cleared-filled nameArea (n * nameBytes) [] area₀ area na (none-begun area) (s .kept .past))
+        ap₂ (lent (cleared (n * nameBytes) nameArea (y .lexicon .area)))
+        (cleared-filled rules m [] (x .heads) (y .heads) q (none-begun (y .heads)) (s .head-kept .past))
+        (cleared-filled bodyArea (m * bodyWords) [] (x .bodies) (y .bodies) mb (none-begun (y .bodies)) (s .body-kept .past))
+        ∙ ap (λ (a : Bytes). lent a (filled rules [] (x .heads)) (filled bodyArea [] (x .bodies)))
+        (cleared-filled nameArea (n * nameBytes) [] (x .lexicon .area) (y .lexicon .area) na (none-begun (y .lexicon .area)) (s .kept .past))
 
     -- what clearing needs
-    pub settling : nameArea ≤ length area₀ → rules ≤ length heads₀ → bodyArea ≤ length bodies₀
-        → (n ≤ names) × (m ≤ rules) × (nameArea ≤ length area) × (rules ≤ length heads) × (bodyArea ≤ length bodies)
+    pub settling : nameArea ≤ length (x .lexicon .area) → rules ≤ length (x .heads) → bodyArea ≤ length (x .bodies)
+        → (n ≤ names) × (m ≤ rules) × (nameArea ≤ length (y .lexicon .area)) × (rules ≤ length (y .heads)) × (bodyArea ≤ length (y .bodies))
     settling la lh lb =
         (counts .0, counts .1, omega (arith, s .kept .as-long), omega (arith, s .head-kept .as-long), omega (arith, s .body-kept .as-long))
 
-    module _ (la : nameArea ≤ length area₀) (lh : rules ≤ length heads₀) (lb : bodyArea ≤ length bodies₀) (size : length t ≤ textBytes)
-        (mk : marked t ≡ true) (en : ended t ≡ true) where
-      read-is : (x : Reading) → allLines t ≡ x → readCall folded t (lent area₀ heads₀ bodies₀) ≡ outcome x (lent area₀ heads₀ bodies₀)
-      read-is x e = call-is t area₀ heads₀ bodies₀ la lh lb x (lines-read t area₀ heads₀ bodies₀ la lh lb size mk en ∙ e)
+    -- what is answered and left
+    abbrev given : ℕ → ℕ → ℕ → ℕ → Areas → Outcome
+    given k at i j o = record { answer = record { number = k; line = at; names = i; rules = j }; areas = o }
 
-      with-book : number ≡ 0
-          → _≡_ {A = Outcome}
-          (record {
-            answer = record { number = number; line = line; names = n; rules = m };
-            areas = left;
-          })
-          (readCall folded t (lent area₀ heads₀ bodies₀))
-      unfolding outcome
-      with-book z =
-          let r = l .reads z in
-          let cs : List Clause = r .1 .0 in
-          let b : Booked cs n m area first prior heads bodies = r .1 .2 in
-          ap₂ (λ (k j : ℕ). record {
-            answer = record { number = k; line = j; names = n; rules = m };
-            areas = left;
-          }) z (r .0)
-          ∙ ap₂ (λ (k j : ℕ). record {
-            answer = record { number = 0; line = 0; names = k; rules = j };
-            areas = left;
-          }) (b .named .count) (b .count)
-          ∙ ap (λ (a : Areas). record { answer = record { number = 0; line = 0; names = length (namesOf cs); rules = length cs }; areas = a }) (after-read cs b)
-          ∙ sym (read-is (read cs) (r .1 .1))
+    with-book : number ≡ 0 → given number line n m left ≡ outcome (allLines fold t) old
+    unfolding outcome
+    with-book z =
+        let r = l .reads z in
+        let cs : List Clause = r .1 .0 in
+        let b : Booked cs y = r .1 .2 in
+        ap₂ (λ (k j : ℕ). given k j n m left) z (r .0) ∙ ap₂ (λ (i j : ℕ). given 0 0 i j left) (b .named .count) (b .count)
+        ∙ ap (given 0 0 (length (namesOf cs)) (length cs)) (after-read cs b) ∙ sym (ap (λ (v : Reading). outcome v old) (r .1 .1))
 
-      with-refusal : (number ≡ 0 → ⊥)
-          → _≡_ {A = Outcome}
-          (record {
-            answer = record { number = number; line = line; names = n; rules = m };
-            areas = left;
-          })
-          (readCall folded t (lent area₀ heads₀ bodies₀))
-      unfolding outcome refusal
-      with-refusal z =
-          let r = l .refuses z in
-          let d : line ≡ 0 → ⊥ = λ e. omega (arith, r .1) in
-          ap₂ (λ (k j : ℕ). record {
-            answer = record { number = number; line = line; names = k; rules = j };
-            areas = left;
-          }) (r .2) (r .3)
-          ∙ ap (λ (a : Areas). record { answer = record { number = number; line = line; names = 0; rules = 0 }; areas = a })
-          (after-refused (r .2) (r .3) ∙ sym (pick-false (lent area₀ heads₀ bodies₀) (filledWith [] [] (lent area₀ heads₀ bodies₀)) (ne-eqb line 0 d)))
-          ∙ sym (read-is (refused number line) (r .0))
+    with-refusal : (number ≡ 0 → ⊥) → given number line n m left ≡ outcome (allLines fold t) old
+    unfolding outcome refusal
+    with-refusal z =
+        let r = l .refuses z in
+        let d : line ≡ 0 → ⊥ = λ e. omega (arith, r .1) in
+        ap₂ (λ (i j : ℕ). given number line i j left) (r .2) (r .3)
+        ∙ ap (given number line 0 0) (after-refused (r .2) (r .3) ∙ sym (pick-false old (filledWith [] [] old) (ne-eqb line 0 d)))
+        ∙ sym (ap (λ (v : Reading). outcome v old) (r .0))
 
-      -- as the call is to leave it
-      pub called : (area₂ : Bytes) (heads₂ bodies₂ : List ℕ)
-          → (area₂ ≡ cleared (n * nameBytes) nameArea area) × ((heads₂ ≡ cleared m rules heads) × (bodies₂ ≡ cleared (m * bodyWords) bodyArea bodies))
-          → _≡_ {A = Outcome}
-          (record { answer = record { number = number; line = line; names = n; rules = m }; areas = lent area₂ heads₂ bodies₂ })
-          (readCall folded t (lent area₀ heads₀ bodies₀))
-      called area₂ heads₂ bodies₂ e =
-          ap (λ (a : Areas). record { answer = record { number = number; line = line; names = n; rules = m }; areas = a })
-          (ap₂ (lent area₂) (e .1 .0) (e .1 .1) ∙ ap (λ (x : Bytes). lent x (cleared m rules heads) (cleared (m * bodyWords) bodyArea bodies)) (e .0))
-          ∙ by-number with-book with-refusal
+    -- as the text comes to it
+    pub called : marked t ≡ true → ended t ≡ true → (area : Bytes) (heads bodies : List ℕ)
+        → (area ≡ cleared (n * nameBytes) nameArea (y .lexicon .area))
+        × ((heads ≡ cleared m rules (y .heads)) × (bodies ≡ cleared (m * bodyWords) bodyArea (y .bodies)))
+        → given number line n m (lent area heads bodies) ≡ outcome (bookOf fold t) old
+    called mk en area heads bodies e =
+        ap (given number line n m)
+        (ap₂ (lent area) (e .1 .0) (e .1 .1)
+        ∙ ap (λ (a : Bytes). lent a (cleared m rules (y .heads)) (cleared (m * bodyWords) bodyArea (y .bodies))) (e .0))
+        ∙ by-number with-book with-refusal ∙ sym (ap (λ (v : Reading). outcome v old) (book-lines fold t mk en))

@@ -8,7 +8,7 @@ use native.Mathlib.Omega.{arith}
 use lib.ListN.{length, drop, length-drop, drop-of-length-le}
 use lib.Seq.{drop-drop}
 use Rattle.limits.specs.Book.{textBytes, rules, nameArea, bodyArea}
-use Rattle.grammar.specs.Bytes.{Bytes, notEnd, folded}
+use Rattle.grammar.specs.Bytes.{Bytes, notEnd}
 use Rattle.grammar.specs.Grammar.{Clause, Ended}
 use Rattle.grammar.specs.Lines.{span, run, lines}
 use Rattle.grammar.proofs.Spans.{all-run, run-past}
@@ -16,19 +16,19 @@ use Rattle.grammar.proofs.Cutting as cut
 use Rattle.tables.specs.Reading.{refused, taken, readLines, marked, ended}
 use Rattle.tables.proofs.Judging.{marked-find, ended-find}
 use Rattle.tables.proofs.Loop.{read-end, read-on, read-stop}
-use Rattle.clause.specs.Line.{Closed, lineAt, pastAt}
+use Rattle.scan.specs.Places.{pastAt}
+use Rattle.clause.specs.Line.{Closed, lineAt}
 use Rattle.clause.proofs.Rows.{kept-on}
-use Rattle.reader.specs.State.{Booked, Stayed, Stepped, Lined, allLines, formAt}
+use Rattle.reader.specs.State.{Tables, Booked, Stayed, Stepped, Lined, allLines, formAt}
 use Rattle.reader.proofs.Stepping.{stayed-same}
 
 -- one change after another
-pub stayed-on : (area area₁ area₂ : Bytes) (heads heads₁ heads₂ bodies bodies₁ bodies₂ : List ℕ) → Stayed area area₁ heads heads₁ bodies bodies₁
-    → Stayed area₁ area₂ heads₁ heads₂ bodies₁ bodies₂ → Stayed area area₂ heads heads₂ bodies bodies₂
-stayed-on area area₁ area₂ heads heads₁ heads₂ bodies bodies₁ bodies₂ p q =
+pub stayed-on : (x y z : Tables) → Stayed x y → Stayed y z → Stayed x z
+stayed-on x y z p q =
     record {
-      kept = kept-on nameArea area area₁ area₂ (p .kept) (q .kept);
-      head-kept = kept-on rules heads heads₁ heads₂ (p .head-kept) (q .head-kept);
-      body-kept = kept-on bodyArea bodies bodies₁ bodies₂ (p .body-kept) (q .body-kept);
+      kept = kept-on nameArea (x .lexicon .area) (y .lexicon .area) (z .lexicon .area) (p .kept) (q .kept);
+      head-kept = kept-on rules (x .heads) (y .heads) (z .heads) (p .head-kept) (q .head-kept);
+      body-kept = kept-on bodyArea (x .bodies) (y .bodies) (z .bodies) (p .body-kept) (q .body-kept);
     }
 
 -- no bytes, no lines
@@ -36,38 +36,36 @@ no-lines : (r : Bytes) → r ≡ [] → lines r ≡ []
 unfolding lines
 no-lines r e = ap lines e
 
--- at place `at` and line number `line`, the clauses so far stand in the tables
-pub record Going (t : Bytes) (at line n m : ℕ) (area area₁ : Bytes) (first prior heads heads₁ bodies bodies₁ : List ℕ) : Type 0 where
+-- at place `at` and line number `line`, the clauses so far stand in the tables y, which were x
+pub record Going (fold : ℕ → ℕ) (t : Bytes) (at line : ℕ) (x y : Tables) : Type 0 where
   pub cs : List Clause
-  pub booked : Booked cs n m area₁ first prior heads₁ bodies₁
-  pub rest : readLines folded (lines (drop at t)) cs line ≡ allLines t
+  pub booked : Booked cs y
+  pub rest : readLines fold (lines (drop at t)) cs line ≡ allLines fold t
   pub closed : cut.Closed (drop at t)
   pub size : length t ≤ textBytes
   pub behind : line + 7 ≤ at
   pub later : 2 ≤ line
-  pub stayed : Stayed area area₁ heads heads₁ bodies bodies₁
+  pub stayed : Stayed x y
 
 -- the first line after the mark
-pub going-start : (t : Bytes) (area : Bytes) (first prior heads bodies : List ℕ)
-    → (length t ≤ textBytes) × (marked t ≡ true) × (ended t ≡ true) × Booked [] 0 0 area first prior heads bodies
-    → Going t 9 2 0 0 area area first prior heads heads bodies bodies
-going-start t area first prior heads bodies p =
-    let f = marked-find t (p .1) in
+pub going-start : (fold : ℕ → ℕ) (t : Bytes) (x : Tables) → length t ≤ textBytes → marked t ≡ true → ended t ≡ true → Booked [] x
+    → Going fold t 9 2 x x
+going-start fold t x l m e b =
+    let f = marked-find t m in
     record {
       cs = [];
-      booked = p .3;
+      booked = b;
       rest = refl;
-      closed = cut.ended-drop 9 t (ended-find t (p .2));
-      size = p .0;
+      closed = cut.ended-drop 9 t (ended-find t e);
+      size = l;
       behind = omega arith;
       later = omega arith;
-      stayed = stayed-same area heads bodies;
+      stayed = stayed-same x;
     }
 
-module _ (t : Bytes) (at line n m : ℕ) (area area₁ : Bytes) (first prior heads heads₁ bodies bodies₁ : List ℕ)
-    (g : Going t at line n m area area₁ first prior heads heads₁ bodies bodies₁) where
+module _ (fold : ℕ → ℕ) (t : Bytes) (at line : ℕ) (x y : Tables) (g : Going fold t at line x y) where
   -- no line is left
-  pub going-end : length t ≤ at → Lined t 0 0 n m area₁ first prior heads₁ bodies₁
+  pub going-end : length t ≤ at → Lined fold t 0 0 y
   going-end l =
       record {
         reads =
@@ -75,7 +73,7 @@ module _ (t : Bytes) (at line n m : ℕ) (area area₁ : Bytes) (first prior hea
               refl,
               (
                 g .cs,
-                sym (g .rest) ∙ ap (λ (ls : List Bytes). readLines folded ls (g .cs) line) (no-lines (drop at t) (drop-of-length-le t l)) ∙ read-end folded
+                sym (g .rest) ∙ ap (λ (ls : List Bytes). readLines fold ls (g .cs) line) (no-lines (drop at t) (drop-of-length-le t l)) ∙ read-end fold
                     (g .cs) line,
                 g .booked,
               ),
@@ -109,52 +107,50 @@ module _ (t : Bytes) (at line n m : ℕ) (area area₁ : Bytes) (first prior hea
     cut-here : lines (drop at t) ≡ lineAt t at ∷ lines (drop (pastAt notEnd t at + 1) t)
     cut-here = cut.line-next (drop at t) tail-ended ∙ ap (λ (x : Bytes). lineAt t at ∷ lines x) tail-next
 
-    here : allLines t ≡ readLines folded (lineAt t at ∷ lines (drop (pastAt notEnd t at + 1) t)) (g .cs) line
-    here = sym (g .rest) ∙ ap (λ (ls : List Bytes). readLines folded ls (g .cs) line) cut-here
+    here : allLines fold t ≡ readLines fold (lineAt t at ∷ lines (drop (pastAt notEnd t at + 1) t)) (g .cs) line
+    here = sym (g .rest) ∙ ap (λ (ls : List Bytes). readLines fold ls (g .cs) line) cut-here
 
-    module _ (cause end n′ m′ : ℕ) (area₂ : Bytes) (first₂ prior₂ heads₂ bodies₂ : List ℕ)
-        (s : Stepped (g .cs) t at cause end n′ m′ area₂ first₂ prior₂ heads₂ bodies₂) where
+    -- and is no further than its place
+    pub going-line : line ≤ at
+    going-line = omega (arith, g .behind)
+
+    module _ (cause to next : ℕ) (w : Tables) (s : Stepped fold (g .cs) t at line cause to next w) where
       -- it is refused
-      pub going-stop : (cause ≡ 0 → ⊥) → Lined t cause line 0 0 area₂ first₂ prior₂ heads₂ bodies₂
-      going-stop z =
+      pub going-stop : (cause ≡ 0 → ⊥) → (z : Tables) → z .lexicon .count ≡ 0 → z .count ≡ 0 → Lined fold t cause line z
+      going-stop n z p q =
           record {
-            reads = λ e. absurd (z e);
+            reads = λ e. absurd (n e);
             refuses =
                 λ e. (
                   here
-                      ∙ read-stop folded (lineAt t at) (lines (drop (pastAt notEnd t at + 1) t)) (g .cs) line (λ q. z (s .judged ∙ q))
+                      ∙ read-stop fold (lineAt t at) (lines (drop (pastAt notEnd t at + 1) t)) (g .cs) line (λ u. n (s .judged ∙ u))
                       ∙ ap (λ (k : ℕ). refused k line) (sym (s .judged)),
                   g .later,
-                  refl,
-                  refl,
+                  p,
+                  q,
                 );
           }
 
       -- it is read on from
       module _ (z : cause ≡ 0) where
-        pub going-next : (end < textBytes) × (line < textBytes)
-        going-next = (omega (arith, s .ends z, end-in, g .size), omega (arith, g .behind, g .size))
+        pub going-less : length t - to < length t - at
+        going-less = omega (arith, s .ends z, end-in)
 
-        pub going-less : (x : ℕ) → x ≡ end + 1 → length t - x < length t - at
-        going-less x q = omega (arith, s .ends z, end-in)
-
-        pub going-on : (x y : ℕ) → x ≡ end + 1 → y ≡ line + 1 → Stayed area₁ area₂ heads₁ heads₂ bodies₁ bodies₂
-            → Going t x y n′ m′ area area₂ first₂ prior₂ heads heads₂ bodies bodies₂
-        going-on x y p q k =
-            let e : x ≡ pastAt notEnd t at + 1 = omega (arith, s .ends z) in
-            let d : suc line ≡ y = omega arith in
+        pub going-on : Stayed y w → Going fold t to next x w
+        going-on k =
+            let d : suc line ≡ next = omega (arith, s .counts z) in
             record {
-              cs = taken (g .cs) (formAt t at);
+              cs = taken (g .cs) (formAt fold t at);
               booked = s .books z;
               rest =
                   sym (here
-                  ∙ read-on folded (lineAt t at) (lines (drop (pastAt notEnd t at + 1) t)) (g .cs) line (sym (s .judged) ∙ z)
-                  ∙ ap₂ (λ (i j : ℕ). readLines folded (lines (drop i t)) (taken (g .cs) (formAt t at)) j) (sym e) d);
+                  ∙ read-on fold (lineAt t at) (lines (drop (pastAt notEnd t at + 1) t)) (g .cs) line (sym (s .judged) ∙ z)
+                  ∙ ap₂ (λ (i j : ℕ). readLines fold (lines (drop i t)) (taken (g .cs) (formAt fold t at)) j) (sym (s .ends z)) d);
               closed =
-                  subst (λ (i : ℕ). cut.Closed (drop i t)) (sym e)
+                  subst (λ (i : ℕ). cut.Closed (drop i t)) (sym (s .ends z))
                   (subst cut.Closed tail-next (cut.line-rest (drop at t) tail-ended));
               size = g .size;
-              behind = omega (arith, g .behind);
-              later = omega (arith, g .later);
-              stayed = stayed-on area area₁ area₂ heads heads₁ heads₂ bodies bodies₁ bodies₂ (g .stayed) k;
+              behind = omega (arith, g .behind, s .ends z, s .counts z);
+              later = omega (arith, g .later, s .counts z);
+              stayed = stayed-on x y w (g .stayed) k;
             }

@@ -2,70 +2,85 @@
 -- Assumes nothing.
 use mathlib.Core.Path.{_≡_, refl, sym, ap, ap₂, _∙_, subst}
 use mathlib.Core.Bool.{Bool, true, false}
+use mathlib.Core.Logic.{inl}
 use mathlib.Core.List.{List, [], _∷_, _++_, map}
 use Prim.Native.Nat.{ℕ, _+_, _*_, _≤_, _<_}
 use native.Mathlib.Numerals.{add-one}
 use native.Mathlib.Omega.{arith}
-use lib.ListN.{length, take, drop, set, length-append, length-map}
-use lib.Seq.{set-split}
+use lib.ListN.{length, take, drop, set, length-append, length-map, length-set}
+use lib.Seq.{set-split, drop-set-lt}
 use borrow.Author.Tests.{leb-true, leb-false}
-use Rattle.limits.specs.Book.{names, rules, nameArea, bodyWords, bodyArea}
-use Rattle.sets.proofs.Logic.{clash}
+use Rattle.limits.specs.Book.{textBytes, names, rules, nameArea, bodyWords, bodyArea}
 use Rattle.words.specs.Row.{pack, put}
+use Rattle.words.proofs.Rows.{length-pack}
+use Rattle.words.proofs.Areas.{length-put, put-past}
 use Rattle.program.specs.Program.{Rule}
-use Rattle.grammar.specs.Bytes.{Bytes, notEnd, hash, lineEnd}
+use Rattle.grammar.specs.Bytes.{Bytes, Folding, Among, notEnd, hash, lineEnd}
 use Rattle.grammar.specs.Grammar.{Clause, Form, silent, rule, fault}
 use Rattle.grammar.specs.Lines.{starts}
+use Rattle.grammar.proofs.Theorems.{classified}
+use Rattle.scan.specs.Places.{pastAt}
 use Rattle.tables.specs.Numbering.{place, places, namesOf, numbered}
 use Rattle.tables.specs.Reading.{lineCause, taken}
-use Rattle.tables.specs.Areas.{headRows, bodyRows, namesIn}
+use Rattle.tables.specs.Areas.{headRows, bodyRows}
 use Rattle.tables.specs.Begun.{begun}
-use Rattle.tables.proofs.Numbering.{names-more, numbered-more, heads-append, bodies-append, heads-length, bodies-length}
-use Rattle.tables.proofs.Loop.{cause-rules, cause-names, cause-none}
+use Rattle.tables.proofs.Numbering.{meets-met, names-more, numbered-more, heads-append, bodies-append, heads-length, bodies-length}
+use Rattle.tables.proofs.Loop.{cause-rules, cause-names, cause-none, nonzero-fault}
 use Rattle.tables.proofs.Encoding.{put-begun}
-use Rattle.clause.specs.Line.{Closed, headAt, pastAt, unblank, isRule}
+use Rattle.clause.specs.Line.{Closed, lineAt, headAt, unblank, faultOf}
 use Rattle.clause.proofs.Forms.{closed-unblank, end-unblank}
-use Rattle.clause.proofs.Places.{end-here}
-use Rattle.clause.specs.Tables.{Kept, Named, Ruled, Said, namesWith}
+use Rattle.clause.proofs.Places.{end-here, in-text}
+use Rattle.clause.specs.Found.{Kept, Lexicon, namesAt, Named, InOrder, Ruled, Said, namesWith}
 use Rattle.clause.proofs.Rows.{kept-same}
 use Rattle.clause.proofs.Meeting.{begun-again}
-use Rattle.reader.specs.State.{Booked, Stayed, Stepped, formAt}
+use Rattle.reader.specs.State.{Tables, Booked, Stayed, Stepped, formAt}
 use Rattle.reader.proofs.Silent.{headed, headed-end, not-silent}
 
 -- nothing changed
-pub stayed-same : (area : Bytes) (heads bodies : List ℕ) → Stayed area area heads heads bodies bodies
-stayed-same area heads bodies =
-    record { kept = kept-same nameArea area; head-kept = kept-same rules heads; body-kept = kept-same bodyArea bodies }
+pub stayed-same : (x : Tables) → Stayed x x
+stayed-same x =
+    record {
+      kept = kept-same nameArea (x .lexicon .area);
+      head-kept = kept-same rules (x .heads);
+      body-kept = kept-same bodyArea (x .bodies);
+    }
 
--- what a line from its head on keeps
-pub said-stays : (t : Bytes) (i n m at n′ : ℕ) (room sound : Bool) (area area′ : Bytes) (first prior heads heads′ bodies bodies′ : List ℕ)
-    → Said t i n m at n′ room sound area area′ first prior heads heads′ bodies bodies′ → Stayed area area′ heads heads′ bodies bodies′
-said-stays t i n m at n′ room sound area area′ first prior heads heads′ bodies bodies′ s =
-    record { kept = s .kept; head-kept = s .head-kept; body-kept = s .body-kept }
+-- only the names changed, up to their stated size
+pub stayed-names : (x y : Tables) → Kept nameArea (x .lexicon .area) (y .lexicon .area) → x .heads ≡ y .heads → x .bodies ≡ y .bodies → Stayed x y
+stayed-names x y k h b =
+    record {
+      kept = k;
+      head-kept = subst (Kept rules (x .heads)) h (kept-same rules (x .heads));
+      body-kept = subst (Kept bodyArea (x .bodies)) b (kept-same bodyArea (x .bodies));
+    }
 
--- what it needs
-pub booked-ready : (cs : List Clause) (n m : ℕ) (area : Bytes) (first prior heads bodies : List ℕ) → Booked cs n m area first prior heads bodies
-    → Named (namesIn area n) n area first prior × (m ≤ rules) × (rules ≤ length heads) × (bodyArea ≤ length bodies)
-booked-ready cs n m area first prior heads bodies b =
-    (subst (λ (ns : List Bytes). Named ns n area first prior) (sym (b .named .there)) (b .named), b .few, b .heads-long, b .bodies-long)
+-- what a rule is found by
+pub booked-ready : (cs : List Clause) (x : Tables) → Booked cs x → InOrder (x .lexicon)
+booked-ready cs x b = subst (λ (ns : List Bytes). Named ns (x .lexicon)) (sym (b .named .there)) (b .named)
+
+-- the end of a line, and its number, leave room for one more
+pub end-room : (t : Bytes) (i line end next : ℕ) → Closed t i → length t ≤ textBytes → line ≤ i → end ≡ pastAt notEnd t i → next ≡ line
+    → (end < textBytes) × (next < textBytes)
+unfolding notEnd
+end-room t i line end next k l b e q = (omega (arith, in-text t i k notEnd refl), omega (arith, in-text t i k notEnd refl))
 
 -- a line that says nothing
-pub stepped-silent : (cs : List Clause) (t : Bytes) (i at n m : ℕ) (area : Bytes) (first prior heads bodies : List ℕ)
-    → formAt t i ≡ silent → at ≡ pastAt notEnd t i → Booked cs n m area first prior heads bodies
-    → Stepped cs t i 0 at n m area first prior heads bodies
+pub stepped-silent : (fold : ℕ → ℕ) (cs : List Clause) (t : Bytes) (i line at next : ℕ) (x : Tables) → formAt fold t i ≡ silent
+    → at ≡ pastAt notEnd t i + 1 → next ≡ line + 1 → Booked cs x → Stepped fold cs t i line 0 at next x
 unfolding lineCause taken
-stepped-silent cs t i at n m area first prior heads bodies e q b =
+stepped-silent fold cs t i line at next x e q p b =
     record {
       judged = sym (ap (lineCause cs) e);
       ends = λ z. q;
-      books = λ z. subst (λ (f : Form). Booked (taken cs f) n m area first prior heads bodies) (sym e) b;
+      counts = λ z. p;
+      books = λ z. subst (λ (f : Form). Booked (taken cs f) x) (sym e) b;
     }
 
 -- a line with a cause
-stepped-refused : (cs : List Clause) (t : Bytes) (i cause at n m : ℕ) (area : Bytes) (first prior heads bodies : List ℕ)
-    → cause ≡ lineCause cs (formAt t i) → 1 ≤ cause → Stepped cs t i cause at n m area first prior heads bodies
-stepped-refused cs t i cause at n m area first prior heads bodies e l =
-    record { judged = e; ends = λ z. absurd (omega arith); books = λ z. absurd (omega arith) }
+stepped-refused : (fold : ℕ → ℕ) (cs : List Clause) (t : Bytes) (i line cause at next : ℕ) (y : Tables) → cause ≡ lineCause cs (formAt fold t i)
+    → (cause ≡ 0 → ⊥) → Stepped fold cs t i line cause at next y
+stepped-refused fold cs t i line cause at next y e l =
+    record { judged = e; ends = λ z. absurd (l z); counts = λ z. absurd (l z); books = λ z. absurd (l z) }
 
 -- more rows after those begun
 begun-more : (xs ys old new : List ℕ) (at : ℕ) → at ≡ length xs → old ≡ begun xs old → new ≡ put at ys old → new ≡ begun (xs ++ ys) new
@@ -101,137 +116,188 @@ bodies-one cs c =
     nothing-more [] = refl
     nothing-more (x ∷ xs) = ap (λ (ys : List ℕ). x ∷ ys) (nothing-more xs)
 
-module _ (cs : List Clause) (c : Clause) (n m : ℕ) (area : Bytes) (first prior heads bodies : List ℕ)
-    (b : Booked cs n m area first prior heads bodies) (room : Bool) (n′ : ℕ) (area′ : Bytes) (first′ prior′ heads′ bodies′ : List ℕ) where
-  -- the clause as it is entered after those of the tables
-  module _ (r : Ruled (namesIn area n) c m room n′ area′ first′ prior′ heads heads′ bodies bodies′) where
-    more : namesWith (namesIn area n) c ≡ namesOf (cs ++ (c ∷ []))
-    more = ap (λ (ns : List Bytes). namesWith ns c) (b .named .there) ∙ sym (names-more cs c)
+-- a first name is one of them
+first-among : (x : Bytes) (xs : List Bytes) → Among x (x ∷ xs)
+unfolding Among
+first-among x xs = inl refl
 
-    -- too many names
-    over : room ≡ false → names < length (namesOf (cs ++ (c ∷ [])))
-    over e =
-        omega (arith, leb-false (length (namesWith (namesIn area n) c)) names (sym (r .fits) ∙ e), ap length more)
+-- The clause c after those of the tables x: the names with it in y, its head and its row.
+module _ (cs : List Clause) (c : Clause) (x : Tables) (b : Booked cs x) (room : Bool) (head : ℕ) (y : Lexicon) (row : List ℕ)
+    (r : Ruled (namesAt (x .lexicon)) c room head y row) where
+  more : namesWith (namesAt (x .lexicon)) c ≡ namesOf (cs ++ (c ∷ []))
+  more = ap (λ (ns : List Bytes). namesWith ns c) (b .named .there) ∙ sym (names-more cs c)
 
-    within : room ≡ true → length (namesOf (cs ++ (c ∷ []))) ≤ names
-    within e =
-        omega (arith, leb-true (length (namesWith (namesIn area n) c)) names (sym (r .fits) ∙ e), ap length more)
+  -- too many names
+  over : room ≡ false → names < length (namesOf (cs ++ (c ∷ [])))
+  over e = omega (arith, leb-false (length (namesWith (namesAt (x .lexicon)) c)) names (sym (r .fits) ∙ e), ap length more)
 
-    -- the tables with it
-    booked-more : m < rules → room ≡ true → Kept rules heads heads′ → Kept bodyArea bodies bodies′
-        → Booked (cs ++ (c ∷ [])) n′ (m + 1) area′ first′ prior′ heads′ bodies′
-    booked-more l e h d =
-        let k : m ≡ length (rulesOf cs) = b .count ∙ sym (rules-count cs) in
-        let hl : m ≡ length (headRows (rulesOf cs)) = k ∙ sym (heads-length (rulesOf cs)) in
-        let bl : m * bodyWords ≡ length (bodyRows (rulesOf cs)) = ap (λ (x : ℕ). x * bodyWords) k ∙ sym (bodies-length (rulesOf cs)) in
-        let set-in : m < length heads = omega (arith, b .heads-long) in
-        let hr : heads′ ≡ put m (place (namesOf (cs ++ (c ∷ []))) (c .head) ∷ []) heads =
-        r .head e ∙ ap (λ (ns : List Bytes). set heads m (place ns (c .head))) more ∙ set-put heads m (place (namesOf (cs ++ (c ∷ []))) (c .head)) set-in in
-        let br : bodies′ ≡ put (m * bodyWords) (pack bodyWords (places (namesOf (cs ++ (c ∷ []))) (c .body))) bodies =
-        r .body e .row ∙ ap (λ (ns : List Bytes). put (m * bodyWords) (pack bodyWords (places ns (c .body))) bodies) more in
+  within : room ≡ true → length (namesOf (cs ++ (c ∷ []))) ≤ names
+  within e = omega (arith, leb-true (length (namesWith (namesAt (x .lexicon)) c)) names (sym (r .fits) ∙ e), ap length more)
+
+  -- its head is a name's number, and its row a body's
+  head-low : room ≡ true → head < names
+  head-low e = omega (arith, r .head-is e, meets-met (namesAt (x .lexicon)) (c .head ∷ c .body) (c .head) (first-among (c .head) (c .body)), within e, ap length more)
+
+  row-long : room ≡ true → length row ≡ bodyWords
+  row-long e = ap length (r .body-is e) ∙ length-pack bodyWords (places (namesWith (namesAt (x .lexicon)) c) (c .body))
+
+  -- the tables once it is entered
+  module _ (l : x .count < rules) (e : room ≡ true) (heads′ bodies′ : List ℕ) (h : heads′ ≡ set (x .heads) (x .count) head)
+      (d : bodies′ ≡ put (x .count * bodyWords) row (x .bodies)) where
+    abbrev entered : Tables
+    entered = record { lexicon = y; count = x .count + 1; heads = heads′; bodies = bodies′ }
+
+    row-in : x .count * bodyWords + length row ≤ length (x .bodies)
+    row-in = omega (arith, row-long e, b .bodies-long)
+
+    head-kept : Kept rules (x .heads) heads′
+    head-kept =
         record {
-          named = subst (λ (ns : List Bytes). Named ns n′ area′ first′ prior′) more (r .named e);
+          as-long = ap length h ∙ length-set (x .heads) (x .count) head;
+          past = ap (drop rules) h ∙ drop-set-lt rules (x .heads) (x .count) head l;
+        }
+
+    body-kept : Kept bodyArea (x .bodies) bodies′
+    body-kept =
+        record {
+          as-long = ap length d ∙ length-put (x .count * bodyWords) row (x .bodies) row-in;
+          past = ap (drop bodyArea) d ∙ put-past (x .count * bodyWords) row (x .bodies) row-in bodyArea (omega (arith, row-long e));
+        }
+
+    booked-more : Booked (cs ++ (c ∷ [])) entered
+    booked-more =
+        let k : x .count ≡ length (rulesOf cs) = b .count ∙ sym (rules-count cs) in
+        let hl : x .count ≡ length (headRows (rulesOf cs)) = k ∙ sym (heads-length (rulesOf cs)) in
+        let bl : x .count * bodyWords ≡ length (bodyRows (rulesOf cs)) = ap (λ (j : ℕ). j * bodyWords) k ∙ sym (bodies-length (rulesOf cs)) in
+        let set-in : x .count < length (x .heads) = omega (arith, b .heads-long) in
+        let hr : heads′ ≡ put (x .count) (place (namesOf (cs ++ (c ∷ []))) (c .head) ∷ []) (x .heads) =
+        h ∙ ap (set (x .heads) (x .count)) (r .head-is e ∙ ap (λ (ns : List Bytes). place ns (c .head)) more)
+        ∙ set-put (x .heads) (x .count) (place (namesOf (cs ++ (c ∷ []))) (c .head)) set-in in
+        let br : bodies′ ≡ put (x .count * bodyWords) (pack bodyWords (places (namesOf (cs ++ (c ∷ []))) (c .body))) (x .bodies) =
+        d
+        ∙ ap (λ (ys : List ℕ). put (x .count * bodyWords) ys (x .bodies))
+        (r .body-is e ∙ ap (λ (ns : List Bytes). pack bodyWords (places ns (c .body))) more) in
+        record {
+          named = subst (λ (ns : List Bytes). Named ns y) more (r .named e);
           count = omega (arith, b .count, length-append cs (c ∷ []));
           few = omega arith;
-          heads-long = omega (arith, h .as-long, b .heads-long);
-          bodies-long = omega (arith, d .as-long, b .bodies-long);
+          heads-long = omega (arith, head-kept .as-long, b .heads-long);
+          bodies-long = omega (arith, body-kept .as-long, b .bodies-long);
           head-rows =
-              begun-more (headRows (rulesOf cs)) (place (namesOf (cs ++ (c ∷ []))) (c .head) ∷ []) heads heads′ m hl (b .head-rows) hr
+              begun-more (headRows (rulesOf cs)) (place (namesOf (cs ++ (c ∷ []))) (c .head) ∷ []) (x .heads) heads′ (x .count) hl (b .head-rows) hr
               ∙ ap (λ (xs : List ℕ). begun xs heads′) (sym (heads-one cs c));
           body-rows =
-              begun-more (bodyRows (rulesOf cs)) (pack bodyWords (places (namesOf (cs ++ (c ∷ []))) (c .body))) bodies bodies′ (m * bodyWords) bl
-              (b .body-rows) br
+              begun-more (bodyRows (rulesOf cs)) (pack bodyWords (places (namesOf (cs ++ (c ∷ []))) (c .body))) (x .bodies) bodies′
+              (x .count * bodyWords) bl (b .body-rows) br
               ∙ ap (λ (xs : List ℕ). begun xs bodies′) (sym (bodies-one cs c));
         }
 
--- a form that is a rule, or not
-by-rule : {X : Type 0} (f : Form) → isRule f ≡ true → ((c : Clause) → f ≡ rule c → X) → X
-unfolding isRule
-by-rule silent e g = clash e refl
-by-rule (rule c) e g = g c refl
-by-rule fault e g = clash e refl
+-- a form without a fault is silent or a rule
+by-rule : {X : Type 0} (f : Form) → faultOf f ≡ 0 → (f ≡ silent → ⊥) → ((k : ℕ) → f ≡ fault k → k ≡ 0 → ⊥) → ((c : Clause) → f ≡ rule c → X) → X
+unfolding faultOf
+by-rule silent e n z g = absurd (n refl)
+by-rule (rule c) e n z g = g c refl
+by-rule (fault k) e n z g = absurd (z k refl e)
 
--- a line at whose head there are bytes and no rule is a fault
-loud : (f : Form) → isRule f ≡ false → (f ≡ silent → ⊥) → f ≡ fault
-unfolding isRule
-loud silent e n = absurd (n refl)
-loud (rule c) e n = clash refl e
-loud fault e n = refl
+-- the cause of a form with a fault is the fault's number
+fault-cause : (f : Form) (cs : List Clause) → (faultOf f ≡ 0 → ⊥) → faultOf f ≡ lineCause cs f
+unfolding faultOf lineCause
+fault-cause silent cs n = refl
+fault-cause (rule c) cs n = absurd (n refl)
+fault-cause (fault k) cs n = refl
 
--- The line at place i, its head at place h.
-module _ (t : Bytes) (i h : ℕ) (k : Closed t i) (z : starts hash (drop i t) ≡ false) (q : h ≡ unblank t i) where
+-- The line at place i with number `line`, its head at place h.
+module _ (fold : ℕ → ℕ) (law : Folding fold) (t : Bytes) (i line h : ℕ) (k : Closed t i) (z : starts hash (drop i t) ≡ false) (q : h ≡ unblank t i) where
   pub head-closed : Closed t h
-  head-closed = subst (Closed t) (sym q) (closed-unblank t i k)
+  head-closed = subst (Closed t) (sym q) (closed-unblank fold law t i k)
 
-  form-head : formAt t i ≡ headAt t h
-  form-head = headed t i k z ∙ ap (headAt t) (sym q)
+  form-head : formAt fold t i ≡ headAt fold t h
+  form-head = headed fold law t i k z ∙ ap (headAt fold t) (sym q)
 
-  head-end : pastAt notEnd t h ≡ pastAt notEnd t i
-  head-end = ap (pastAt notEnd t) q ∙ end-unblank t i k
+  pub head-end : pastAt notEnd t h ≡ pastAt notEnd t i
+  head-end = ap (pastAt notEnd t) q ∙ end-unblank fold law t i k
 
   -- nothing there
-  pub blank-form : starts lineEnd (drop h t) ≡ true → formAt t i ≡ silent
-  blank-form e = form-head ∙ headed-end t h head-closed e
+  pub blank-form : starts lineEnd (drop h t) ≡ true → formAt fold t i ≡ silent
+  blank-form e = form-head ∙ headed-end fold law t h head-closed e
 
   pub blank-end : starts lineEnd (drop h t) ≡ true → h ≡ pastAt notEnd t i
   blank-end e = end-here t h head-closed e ∙ head-end
 
-  -- a rule or a fault there, entered after the clauses cs
-  module _ (e : starts lineEnd (drop h t) ≡ false) (cs : List Clause) (n m : ℕ) (area : Bytes) (first prior heads bodies : List ℕ)
-      (b : Booked cs n m area first prior heads bodies) (at n′ : ℕ) (room sound : Bool) (area′ : Bytes) (first′ prior′ heads′ bodies′ : List ℕ)
-      (s : Said t h n m at n′ room sound area area′ first′ prior′ heads heads′ bodies bodies′) where
-    pub stepped-fault : sound ≡ false → Stepped cs t i 5 at n m area′ first′ prior′ heads′ bodies′
-    unfolding lineCause
-    stepped-fault o =
-        stepped-refused cs t i 5 at n m area′ first′ prior′ heads′ bodies′
-        (sym (ap (lineCause cs) (form-head ∙ loud (headAt t h) (sym (s .judged) ∙ o) (not-silent t h head-closed e)))) (omega arith)
+  -- a rule or a fault there, found after the clauses cs
+  module _ (e : starts lineEnd (drop h t) ≡ false) (x : Tables) (number at : ℕ) (room : Bool) (head : ℕ) (y : Lexicon) (row : List ℕ)
+      (s : Said fold t h (x .lexicon) number at room head y row) where
+    -- at fault
+    pub stepped-fault : (number ≡ 0 → ⊥) → (cs : List Clause) (at next : ℕ) (w : Tables) → Stepped fold cs t i line number at next w
+    stepped-fault o cs at next w =
+        stepped-refused fold cs t i line number at next w
+        (s .judged ∙ fault-cause (headAt fold t h) cs (λ p. o (s .judged ∙ p)) ∙ ap (lineCause cs) (sym form-head)) o
 
-    -- a rule
-    saying : {X : Type 0} → sound ≡ true → ((c : Clause) → headAt t h ≡ rule c → X) → X
-    saying o g = by-rule (headAt t h) (sym (s .judged) ∙ o) g
+    module _ (o : number ≡ 0) where
+      -- a rule
+      saying : {X : Type 0} → ((c : Clause) → headAt fold t h ≡ rule c → X) → X
+      saying g =
+          by-rule (headAt fold t h) (sym (s .judged) ∙ o) (not-silent fold law t h head-closed e)
+          (λ j p. nonzero-fault fold (classified fold law) (lineAt t i) j (classified fold law .forms (lineAt t i) (fault j) .1 (form-head ∙ p))) g
 
-    cause-of : (c : Clause) → headAt t h ≡ rule c → lineCause cs (rule c) ≡ lineCause cs (formAt t i)
-    cause-of c p = ap (lineCause cs) (sym (form-head ∙ p))
+      cause-of : (cs : List Clause) (c : Clause) → headAt fold t h ≡ rule c → lineCause cs (rule c) ≡ lineCause cs (formAt fold t i)
+      cause-of cs c p = ap (lineCause cs) (sym (form-head ∙ p))
 
-    -- 256 rules are taken
-    pub stepped-full : sound ≡ true → m ≡ rules → Stepped cs t i 7 at n m area′ first′ prior′ heads′ bodies′
-    stepped-full o l =
-        saying o
-        (λ c p.
-        stepped-refused cs t i 7 at n m area′ first′ prior′ heads′ bodies′
-        (sym (cause-rules cs c (omega (arith, b .count))) ∙ cause-of c p) (omega arith))
+      -- the line's end
+      pub rule-end : at ≡ pastAt notEnd t i
+      rule-end = s .ends o ∙ head-end
 
-    module _ (o : sound ≡ true) (f : m ≡ rules → ⊥) where
-      below : m < rules
-      below = omega (arith, b .few, f)
+      module _ (cs : List Clause) (b : Booked cs x) where
+        -- 256 rules are taken
+        pub stepped-full : x .count ≡ rules → (at next : ℕ) (w : Tables) → Stepped fold cs t i line 7 at next w
+        stepped-full l at next w =
+            saying
+            (λ c p.
+            stepped-refused fold cs t i line 7 at next w (sym (cause-rules cs c (omega (arith, b .count))) ∙ cause-of cs c p) (λ v. omega arith))
 
-      entered : (c : Clause) → headAt t h ≡ rule c → Ruled (namesIn area n) c m room n′ area′ first′ prior′ heads heads′ bodies bodies′
-      entered c p = s .enters c p below
+        module _ (f : x .count ≡ rules → ⊥) where
+          below : x .count < rules
+          below = omega (arith, b .few, f)
 
-      -- too many names
-      pub stepped-over : room ≡ false → Stepped cs t i 6 at n m area′ first′ prior′ heads′ bodies′
-      stepped-over r =
-          saying o
-          (λ c p.
-          stepped-refused cs t i 6 at n m area′ first′ prior′ heads′ bodies′
-          (sym (cause-names cs c (omega (arith, b .count, below))
-          (over cs c n m area first prior heads bodies b room n′ area′ first′ prior′ heads′ bodies′ (entered c p) r)) ∙ cause-of c p)
-          (omega arith))
+          -- too many names
+          pub stepped-over : room ≡ false → (at next : ℕ) (w : Tables) → Stepped fold cs t i line 6 at next w
+          stepped-over r at next w =
+              saying
+              (λ c p.
+              stepped-refused fold cs t i line 6 at next w
+              (sym (cause-names cs c (omega (arith, b .count, below)) (over cs c x b room head y row (s .says c p) r)) ∙ cause-of cs c p)
+              (λ v. omega arith))
 
-      -- entered
-      pub stepped-rule : room ≡ true → Stepped cs t i 0 at n′ (m + 1) area′ first′ prior′ heads′ bodies′
-      unfolding taken
-      stepped-rule r =
-          saying o
-          (λ c p.
-          record {
-            judged =
-                sym (cause-none cs c (omega (arith, b .count, below))
-                (within cs c n m area first prior heads bodies b room n′ area′ first′ prior′ heads′ bodies′ (entered c p) r)) ∙ cause-of c p;
-            ends = λ x. s .ends o ∙ head-end;
-            books =
-                λ x.
-                subst (λ (g : Form). Booked (taken cs g) n′ (m + 1) area′ first′ prior′ heads′ bodies′) (sym (form-head ∙ p))
-                (booked-more cs c n m area first prior heads bodies b room n′ area′ first′ prior′ heads′ bodies′ (entered c p) below r (s .head-kept)
-                (s .body-kept));
-          })
+          module _ (r : room ≡ true) where
+            -- what entering it needs
+            pub entering : (x .count < rules) × ((length row ≡ bodyWords) × (head < names))
+            entering = saying (λ c p. (below, (row-long cs c x b room head y row (s .says c p) r, head-low cs c x b room head y row (s .says c p) r)))
+
+            -- and leaves
+            module _ (heads′ bodies′ : List ℕ) (h′ : heads′ ≡ set (x .heads) (x .count) head)
+                (d : bodies′ ≡ put (x .count * bodyWords) row (x .bodies)) where
+              pub stayed-rule : Stayed x (record { lexicon = y; count = x .count + 1; heads = heads′; bodies = bodies′ })
+              stayed-rule =
+                  saying
+                  (λ c p. record {
+                    kept = s .kept;
+                    head-kept = head-kept cs c x b room head y row (s .says c p) below r heads′ bodies′ h′ d;
+                    body-kept = body-kept cs c x b room head y row (s .says c p) below r heads′ bodies′ h′ d;
+                  })
+
+              pub stepped-rule : (next to : ℕ) → to ≡ at + 1 → next ≡ line + 1
+                  → Stepped fold cs t i line 0 to next (record { lexicon = y; count = x .count + 1; heads = heads′; bodies = bodies′ })
+              unfolding taken
+              stepped-rule next to v w =
+                  saying
+                  (λ c p.
+                  record {
+                    judged =
+                        sym (cause-none cs c (omega (arith, b .count, below)) (within cs c x b room head y row (s .says c p) r)) ∙ cause-of cs c p;
+                    ends = λ u. v ∙ ap (λ (j : ℕ). j + 1) rule-end;
+                    counts = λ u. w;
+                    books =
+                        λ u.
+                        subst (λ (g : Form). Booked (taken cs g) (record { lexicon = y; count = x .count + 1; heads = heads′; bodies = bodies′ }))
+                        (sym (form-head ∙ p)) (booked-more cs c x b room head y row (s .says c p) below r heads′ bodies′ h′ d);
+                  })

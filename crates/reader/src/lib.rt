@@ -5,23 +5,25 @@ use limits::Refusal;
 use rows::clear::clear_tail8;
 use rows::clear::clear_tail16;
 use rows::clear::clear_tail64;
+use rows::write::copy;
 use scan::cursor::Cursor;
 use scan::cursor::Word;
 use scan::table::folding;
 ghost use mathlib.Core.Path.{_≡_};
 ghost use mathlib.Core.Bool.{true};
 ghost use mathlib.Core.List.{List, []};
-ghost use Prim.Native.Nat.{_*_, _≤_};
-ghost use lib.ListN.{length};
+ghost use Prim.Native.Nat.{_+_, _*_, _<_, _≤_};
+ghost use lib.ListN.{length, set};
 ghost use Rattle.limits.specs.Book.{textBytes, names, nameBytes, rules, bodyWords, nameArea, bodyArea};
+ghost use Rattle.words.specs.Row.{put};
 ghost use Rattle.rows.specs.Clear.{cleared};
-ghost use Rattle.grammar.specs.Bytes.{folded};
+ghost use Rattle.grammar.specs.Bytes.{folded, letters};
 ghost use Rattle.grammar.specs.Grammar.{Clause};
 ghost use Rattle.scan.specs.Fold.{FoldTable};
-ghost use Rattle.tables.specs.Reading.{marked, ended};
-ghost use Rattle.tables.specs.Areas.{readCall};
+ghost use Rattle.tables.specs.Reading.{marked, ended, bookOf};
+ghost use Rattle.tables.specs.Areas.{outcome, readCall};
 ghost use Rattle.clause.specs.Line.{Closed};
-ghost use Rattle.reader.specs.State.{Booked, Stayed, Stepped, Lined};
+ghost use Rattle.reader.specs.State.{tablesAt, Booked, Stayed, Stepped, Lined};
 
 // What a call returns: the number of the refusal with its line, 0 for none, and how many names and rules there are.
 pub struct Answer {
@@ -60,89 +62,107 @@ fn refused(number: usize, line: usize) -> Answer
     }
 }
 
-// The state after a line: the cause for which it is refused, 0 for none, its end, and how many names and rules there are.
-struct Next {
-    pub cause: usize,
-    pub at: usize,
+// Where reading stands: the cursor before a line, and how many names and rules there are above it.
+struct Reading {
+    pub cursor: Cursor,
     pub names: usize,
     pub rules: usize,
 }
 
-// The line at the cursor, after n names and m rules: 5 comes before 7, and 7 before 6.
-fn step(
-    text: &[u8],
-    table: &[u8],
-    cursor: Cursor,
-    spellings: &mut [u8],
-    first: &mut [u16],
-    prior: &mut [u16],
-    heads: &mut [u16],
-    bodies: &mut [u64],
-    n: usize,
-    m: usize,
-) -> Next
-    requires { ⌜ Closed (now text) (cursor .at) × ((cs : List Clause) × Booked cs n m (now spellings) (now first) (now prior) (now heads) (now bodies)) × FoldTable (now table) ⌝ }
-    ensures stays { λ r. ⌜ Stayed (now (spellings .entry)) (now (spellings .exit)) (now (heads .entry)) (now (heads .exit)) (now (bodies .entry)) (now (bodies .exit)) ⌝ }
-    ensures steps { λ r. ⌜ ((cs : List Clause) → Booked cs n m (now (spellings .entry)) (now (first .entry)) (now (prior .entry)) (now (heads .entry)) (now (bodies .entry)) → Stepped cs (now (text .entry)) (cursor .at) (r .cause) (r .at) (r .names) (r .rules) (now (spellings .exit)) (now (first .exit)) (now (prior .exit)) (now (heads .exit)) (now (bodies .exit))) ⌝ }
+// What a line comes to: the cause for which it is refused, 0 for none, and where reading stands then, behind the line or still before it.
+struct Step {
+    pub cause: usize,
+    pub after: Reading,
+}
+
+// Head and row become rule m.
+fn enter(heads: &mut [u16], bodies: &mut [u64], m: usize, head: usize, row: &[u64])
+    requires { ⌜ (m < rules) × (rules ≤ length (now heads)) × (bodyArea ≤ length (now bodies)) ⌝ }
+    requires { ⌜ (length (now row) ≡ bodyWords) × (head < names) ⌝ }
+    ensures head { λ r. ⌜ now (heads .exit) ≡ set (now (heads .entry)) m head ⌝ }
+    ensures body { λ r. ⌜ now (bodies .exit) ≡ put (m * bodyWords) (now (row .entry)) (now (bodies .entry)) ⌝ }
 {
-    if cursor.sees(text, Cursor::HASH) {
-        return Next {
-            cause: 0,
-            at: cursor.past_line(text).at,
-            names: n,
-            rules: m,
-        };
+    heads[m] = head as u16;
+    copy(bodies, Book::body_at(m), row, 0, Book::BODY_WORDS);
+}
+
+impl Reading {
+    // The line at the cursor: its fault comes before 7, and 7 before 6. Only a rule that is not refused is entered.
+    fn line(
+        self,
+        text: &[u8],
+        table: &[u8],
+        spellings: &mut [u8],
+        first: &mut [u16],
+        prior: &mut [u16],
+        heads: &mut [u16],
+        bodies: &mut [u64],
+    ) -> Step
+        requires { ⌜ Closed (now text) (self .cursor .at) × (length (now text) ≤ textBytes) × (self .cursor .line ≤ self .cursor .at)
+            × FoldTable (now table) ⌝ }
+        requires { ⌜ ((cs : List Clause)
+            × Booked cs (tablesAt (self .names) (self .rules) (now spellings) (now first) (now prior) (now heads) (now bodies))) ⌝ }
+        ensures stays { λ r. ⌜ Stayed
+            (tablesAt (self .names) (self .rules) (now (spellings .entry)) (now (first .entry)) (now (prior .entry)) (now (heads .entry)) (now (bodies .entry)))
+            (tablesAt (r .after .names) (r .after .rules) (now (spellings .exit)) (now (first .exit)) (now (prior .exit)) (now (heads .exit)) (now (bodies .exit))) ⌝ }
+        ensures steps { λ r. ⌜ ((cs : List Clause)
+            → Booked cs
+            (tablesAt (self .names) (self .rules) (now (spellings .entry)) (now (first .entry)) (now (prior .entry)) (now (heads .entry)) (now (bodies .entry)))
+            → Stepped (letters (now (table .entry))) cs (now (text .entry)) (self .cursor .at) (self .cursor .line)
+            (r .cause) (r .after .cursor .at) (r .after .cursor .line)
+            (tablesAt (r .after .names) (r .after .rules) (now (spellings .exit)) (now (first .exit)) (now (prior .exit)) (now (heads .exit)) (now (bodies .exit)))) ⌝ }
+    {
+        let cursor = self.cursor;
+        let n = self.names;
+        let m = self.rules;
+        if cursor.sees(text, Cursor::HASH) {
+            return behind(cursor.past_line(text), n, m);
+        }
+        let head = cursor.past_blanks(text);
+        if head.sees(text, Cursor::LINE_END) {
+            return behind(head, n, m);
+        }
+        let mut row = [0u64; Book::BODY_WORDS];
+        let found = rule(text, table, head, spellings, first, prior, &mut row, n);
+        if found.fault != 0 {
+            return before(found.fault, self);
+        }
+        if m == Book::RULES {
+            return before(Refusal::RULES, self);
+        }
+        if !found.room {
+            return before(Refusal::NAMES, self);
+        }
+        enter(heads, bodies, m, found.head, &row);
+        behind(found.cursor, found.names, m + 1)
     }
-    let head = cursor.past_blanks(text);
-    if head.sees(text, Cursor::LINE_END) {
-        return Next {
-            cause: 0,
-            at: head.at,
-            names: n,
-            rules: m,
-        };
+}
+
+// A line that is refused for that cause: reading stands before it.
+fn before(cause: usize, reading: Reading) -> Step
+    ensures { λ r. ⌜ r ≡ record { cause = cause; after = reading } ⌝ }
+{
+    Step {
+        cause,
+        after: reading,
     }
-    let taken = rule(
-        text,
-        table,
-        head,
-        spellings,
-        first,
-        prior,
-        heads,
-        bodies,
-        n,
-        m,
-    );
-    if !taken.sound {
-        return Next {
-            cause: Refusal::LINE,
-            at: taken.at,
-            names: n,
-            rules: m,
-        };
-    }
-    if m == Book::RULES {
-        return Next {
-            cause: Refusal::RULES,
-            at: taken.at,
-            names: n,
-            rules: m,
-        };
-    }
-    if !taken.room {
-        return Next {
-            cause: Refusal::NAMES,
-            at: taken.at,
-            names: n,
-            rules: m,
-        };
-    }
-    Next {
+}
+
+// A line that is read, whose end is at the cursor: reading goes on behind it.
+fn behind(end: Cursor, n: usize, m: usize) -> Step
+    requires { ⌜ (end .at < textBytes) × (end .line < textBytes) ⌝ }
+    ensures { λ r. ⌜ r ≡ record {
+      cause = 0;
+      after = record { cursor = record { at = end .at + 1; line = end .line + 1 }; names = n; rules = m };
+    } ⌝ }
+{
+    Step {
         cause: 0,
-        at: taken.at,
-        names: taken.names,
-        rules: m + 1,
+        after: Reading {
+            cursor: end.next_line(),
+            names: n,
+            rules: m,
+        },
     }
 }
 
@@ -156,50 +176,39 @@ fn lines(
     heads: &mut [u16],
     bodies: &mut [u64],
 ) -> Answer
-    requires { ⌜ (length (now text) ≤ textBytes) × (marked (now text) ≡ true) × (ended (now text) ≡ true) × Booked [] 0 0 (now spellings) (now first) (now prior) (now heads) (now bodies) × FoldTable (now table) ⌝ }
-    ensures stays { λ r. ⌜ Stayed (now (spellings .entry)) (now (spellings .exit)) (now (heads .entry)) (now (heads .exit)) (now (bodies .entry)) (now (bodies .exit)) ⌝ }
-    ensures reads { λ r. ⌜ Lined (now (text .entry)) (r .number) (r .line) (r .names) (r .rules) (now (spellings .exit)) (now (first .exit)) (now (prior .exit)) (now (heads .exit)) (now (bodies .exit)) ⌝ }
+    requires { ⌜ (length (now text) ≤ textBytes) × (marked (now text) ≡ true) × (ended (now text) ≡ true) × FoldTable (now table) ⌝ }
+    requires { ⌜ Booked [] (tablesAt 0 0 (now spellings) (now first) (now prior) (now heads) (now bodies)) ⌝ }
+    ensures stays { λ r. ⌜ Stayed
+        (tablesAt 0 0 (now (spellings .entry)) (now (first .entry)) (now (prior .entry)) (now (heads .entry)) (now (bodies .entry)))
+        (tablesAt (r .names) (r .rules) (now (spellings .exit)) (now (first .exit)) (now (prior .exit)) (now (heads .exit)) (now (bodies .exit))) ⌝ }
+    ensures reads { λ r. ⌜ Lined (letters (now (table .entry))) (now (text .entry)) (r .number) (r .line)
+        (tablesAt (r .names) (r .rules) (now (spellings .exit)) (now (first .exit)) (now (prior .exit)) (now (heads .exit)) (now (bodies .exit))) ⌝ }
 {
-    let mut n = 0;
-    let mut m = 0;
-    let mut cursor = Cursor {
-        at: Cursor::MARK_BYTES,
-        line: 2,
+    let mut reading = Reading {
+        cursor: Cursor::first_line(),
+        names: 0,
+        rules: 0,
     };
-    while cursor.at < text.len() {
-        let next = step(
-            text,
-            table,
-            cursor,
-            spellings,
-            first,
-            prior,
-            heads,
-            bodies,
-            n,
-            m,
-        );
-        if next.cause != 0 {
-            return refused(next.cause, cursor.line);
+    while reading.cursor.at < text.len() {
+        let step = reading.line(text, table, spellings, first, prior, heads, bodies);
+        if step.cause != 0 {
+            return refused(step.cause, reading.cursor.line);
         }
-        n = next.names;
-        m = next.rules;
-        cursor = Cursor {
-            at: next.at,
-            line: cursor.line,
-        }.next_line();
+        let after = step.after;
+        reading = after;
     }
     Answer {
         number: 0,
         line: 0,
-        names: n,
-        rules: m,
+        names: reading.names,
+        rules: reading.rules,
     }
 }
 
 // Every area is cleared from its first unused row to its end.
 fn settle(spellings: &mut [u8], heads: &mut [u16], bodies: &mut [u64], n: usize, m: usize)
-    requires { ⌜ (n ≤ names) × (m ≤ rules) × (nameArea ≤ length (now spellings)) × (rules ≤ length (now heads)) × (bodyArea ≤ length (now bodies)) ⌝ }
+    requires { ⌜ (n ≤ names) × (m ≤ rules) × (nameArea ≤ length (now spellings)) × (rules ≤ length (now heads))
+        × (bodyArea ≤ length (now bodies)) ⌝ }
     ensures spellings { λ r. ⌜ now (spellings .exit) ≡ cleared (n * nameBytes) nameArea (now (spellings .entry)) ⌝ }
     ensures heads { λ r. ⌜ now (heads .exit) ≡ cleared m rules (now (heads .entry)) ⌝ }
     ensures bodies { λ r. ⌜ now (bodies .exit) ≡ cleared (m * bodyWords) bodyArea (now (bodies .entry)) ⌝ }
@@ -209,9 +218,52 @@ fn settle(spellings: &mut [u8], heads: &mut [u16], bodies: &mut [u64], n: usize,
     clear_tail64(bodies, Book::body_at(m), Book::BODY_AREA);
 }
 
+// Reads a text within its limit into areas that are long enough, by the letters of the lent table: the work of the call below.
+pub fn read_formed(
+    text: &[u8],
+    table: &[u8],
+    spellings: &mut [u8],
+    heads: &mut [u16],
+    bodies: &mut [u64],
+) -> Answer
+    requires { ⌜ (nameArea ≤ length (now spellings)) × (rules ≤ length (now heads)) × (bodyArea ≤ length (now bodies)) ⌝ }
+    requires { ⌜ (length (now text) ≤ textBytes) × FoldTable (now table) ⌝ }
+    ensures { λ r. ⌜ record {
+      answer = record { number = r .number; line = r .line; names = r .names; rules = r .rules };
+      areas = record { spellings = now (spellings .exit); heads = now (heads .exit); bodies = now (bodies .exit) };
+    }
+        ≡ outcome (bookOf (letters (now (table .entry))) (now (text .entry)))
+        (record { spellings = now (spellings .entry); heads = now (heads .entry); bodies = now (bodies .entry) }) ⌝ }
+{
+    if !begins(text) {
+        return refused(Refusal::MARK, 0);
+    }
+    if text[text.len() - 1] != Cursor::LINE_END {
+        return refused(Refusal::LAST_BYTE, 0);
+    }
+    let mut first = [0u16; Word::BUCKETS];
+    let mut prior = [0u16; Book::NAMES];
+    let answer = lines(
+        text,
+        table,
+        spellings,
+        &mut first,
+        &mut prior,
+        heads,
+        bodies,
+    );
+    settle(spellings, heads, bodies, answer.names, answer.rules);
+    answer
+}
+
 // Reads the text into the areas.
 pub fn read(text: &[u8], spellings: &mut [u8], heads: &mut [u16], bodies: &mut [u64]) -> Answer
-    ensures { λ r. ⌜ record { answer = record { number = r .number; line = r .line; names = r .names; rules = r .rules }; areas = record { spellings = now (spellings .exit); heads = now (heads .exit); bodies = now (bodies .exit) } } ≡ readCall folded (now (text .entry)) (record { spellings = now (spellings .entry); heads = now (heads .entry); bodies = now (bodies .entry) }) ⌝ }
+    ensures { λ r. ⌜ record {
+      answer = record { number = r .number; line = r .line; names = r .names; rules = r .rules };
+      areas = record { spellings = now (spellings .exit); heads = now (heads .exit); bodies = now (bodies .exit) };
+    }
+        ≡ readCall folded (now (text .entry))
+        (record { spellings = now (spellings .entry); heads = now (heads .entry); bodies = now (bodies .entry) }) ⌝ }
 {
     if spellings.len() < Book::NAME_AREA
         || heads.len() < Book::RULES
@@ -222,24 +274,6 @@ pub fn read(text: &[u8], spellings: &mut [u8], heads: &mut [u16], bodies: &mut [
     if Book::TEXT_BYTES < text.len() {
         return refused(Refusal::LONG_TEXT, 0);
     }
-    if !begins(text) {
-        return refused(Refusal::MARK, 0);
-    }
-    if text[text.len() - 1] != Cursor::LINE_END {
-        return refused(Refusal::LAST_BYTE, 0);
-    }
     let table = folding();
-    let mut first = [0u16; Word::BUCKETS];
-    let mut prior = [0u16; Book::NAMES];
-    let answer = lines(
-        text,
-        &table,
-        spellings,
-        &mut first,
-        &mut prior,
-        heads,
-        bodies,
-    );
-    settle(spellings, heads, bodies, answer.names, answer.rules);
-    answer
+    read_formed(text, &table, spellings, heads, bodies)
 }

@@ -1,7 +1,7 @@
 -- The writer's call against the reader's.
 -- Assumes nothing.
 use mathlib.Core.Path.{_≡_, sym, ap, ap₂, subst, _∙_}
-use mathlib.Core.Bool.{Bool, true, false, _||_}
+use mathlib.Core.Bool.{true, false}
 use mathlib.Core.List.{List, [], _∷_, _++_, append-assoc, map}
 use Prim.Native.Nat.{ℕ, zero, suc, _-_, _*_, _≤_}
 use native.Mathlib.Omega.{arith}
@@ -10,7 +10,7 @@ use lib.ListN.{length, take, drop, replicate, length-append, length-replicate, l
 use lib.Seq.{take-at, take-append-seam}
 use borrow.Author.Tests.{ltb-false, le-ltb}
 use Rattle.limits.specs.Book.{textBytes, nameBytes, rules, bodyWords, nameArea, bodyArea}
-use Rattle.sets.proofs.Logic.{either, clash, not-true, or-left, pick-true, pick-false}
+use Rattle.sets.proofs.Logic.{either, not-true}
 use Rattle.words.specs.Row.{Words, pack}
 use Rattle.words.proofs.Rows.{words-pack}
 use Rattle.words.proofs.Areas.{words-append, words-drop}
@@ -21,48 +21,14 @@ use Rattle.program.specs.Program.{Rule}
 use Rattle.tables.specs.Numbering.{namesOf, numbered}
 use Rattle.tables.specs.Reading.{bookOf, read}
 use Rattle.tables.specs.Areas.{Areas, short, filled, filledWith, nameRows, headRows, bodyRows, tablesOf, readCall}
-use Rattle.tables.specs.Writing.{Readable, Written, wellFormed, placed, writeCall}
+use Rattle.tables.specs.Writing.{Written, wellFormed, writeCall}
 use Rattle.tables.specs.Claims.{accepted}
 use Rattle.tables.proofs.Numbering.{heads-length, bodies-length}
 use Rattle.tables.proofs.Encoding.{length-nameRows, length-filled, long-enough, not-short}
 use Rattle.tables.proofs.Theorems.{judged, read-calls, read-fits, read-good-at}
-use Rattle.roundtrip.specs.Claims.{textOf, ReadsTo, Lent, over, wrote, WriteCalls}
+use Rattle.roundtrip.specs.Claims.{textOf, ReadsTo, over, wrote, WriteCalls}
 use Rattle.roundtrip.proofs.Theorems.{round-trip}
-
--- whether an area is too short, the text area among them
-abbrev cramped : Areas → Bytes → Bool
-cramped o area = short o || ltb (length area) textBytes
-
--- areas that are long enough
-roomy : (o : Areas) (area : Bytes) → short o ≡ false → textBytes ≤ length area → cramped o area ≡ false
-roomy o area s l = ap₂ _||_ s (le-ltb (length area) textBytes l)
-
--- and what follows from that
-roomy-long : (o : Areas) (area : Bytes) → cramped o area ≡ false → short o ≡ false
-roomy-long o area e = not-true (short o) (λ s. clash (or-left (ltb (length area) textBytes) s) e)
-
-module _ (fold : ℕ → ℕ) (o : Areas) (n m : ℕ) (area : Bytes) where
-  -- the ways of the call
-  refused-one : cramped o area ≡ true → writeCall fold o n m area .number ≡ 1
-  unfolding writeCall
-  refused-one e = ap (λ (w : Written). w .number) (pick-true _ _ e)
-
-  refused-ten : cramped o area ≡ false → wellFormed fold o n m ≡ false → writeCall fold o n m area .number ≡ 10
-  unfolding writeCall
-  refused-ten e f = ap (λ (w : Written). w .number) (pick-false _ _ e ∙ pick-false _ _ f)
-
-  in-place : cramped o area ≡ false → wellFormed fold o n m ≡ true → writeCall fold o n m area ≡ placed (textOf o n m) area
-  unfolding writeCall
-  in-place e f = pick-false _ _ e ∙ pick-true _ _ f
-
--- a text too long, and one that fits
-placed-long : (w area : Bytes) → ltb textBytes (length w) ≡ true → placed w area .number ≡ 12
-unfolding placed
-placed-long w area e = ap (λ (x : Written). x .number) (pick-true _ _ e)
-
-placed-fits : (w area : Bytes) → ltb textBytes (length w) ≡ false → placed w area ≡ wrote (length w) (filled textBytes w area)
-unfolding placed
-placed-fits w area e = pick-false _ _ e
+use Rattle.roundtrip.proofs.Judging.{cramped, roomy, roomy-long, refused-one, refused-ten, in-place, placed-long, placed-fits, write-judges}
 
 -- the text that was placed
 take-filled : (size : ℕ) (w area : List ℕ) → take (length w) (filled size w area) ≡ w
@@ -119,8 +85,8 @@ words-tables cs old h =
     (words-append (replicate size 0) (drop bodyArea (old .bodies)) (words-zeros size) (words-drop bodyArea (old .bodies) h))
 
 -- numbers that are not the same
-apart : (k i j : ℕ) → k ≡ i → k ≡ j → (i ≡ j → ⊥) → ⊥
-apart k i j p q h = h (sym p ∙ q)
+differ : (k i j : ℕ) → k ≡ i → k ≡ j → (i ≡ j → ⊥) → ⊥
+differ k i j p q h = h (sym p ∙ q)
 
 module _ (fold : ℕ → ℕ) (folding : Folding fold) where
   -- the rows of a book that was read fit their areas
@@ -156,17 +122,20 @@ module _ (fold : ℕ → ℕ) (folding : Folding fold) where
   -- where the writer accepts: the areas are long enough, the tables in order, the text fits
   module _ (o : Areas) (n m : ℕ) (area : Bytes) (zero-number : writeCall fold o n m area .number ≡ 0) where
     has-room : cramped o area ≡ false
-    has-room = not-true (cramped o area) (λ c. apart _ 1 0 (refused-one fold o n m area c) zero-number (λ q. omega (arith, q)))
+    has-room =
+        not-true (cramped o area)
+        (λ c. differ _ 1 0 (ap (λ (x : Written). x .number) (refused-one fold o n m area c)) zero-number (λ q. omega (arith, q)))
 
     in-order : wellFormed fold o n m ≡ true
     in-order =
         either (wellFormed fold o n m) (λ w. w)
-        (λ w. absurd (apart _ 10 0 (refused-ten fold o n m area has-room w) zero-number (λ q. omega (arith, q))))
+        (λ w. absurd (differ _ 10 0 (ap (λ (x : Written). x .number) (refused-ten fold o n m area has-room w)) zero-number (λ q. omega (arith, q))))
 
     fits : ltb textBytes (length (textOf o n m)) ≡ false
     fits =
         not-true (ltb textBytes (length (textOf o n m)))
-        (λ l. apart _ 12 0 (ap (λ (x : Written). x .number) (in-place fold o n m area has-room in-order) ∙ placed-long (textOf o n m) area l) zero-number
+        (λ l.
+        differ _ 12 0 (ap (λ (x : Written). x .number) (in-place fold o n m area has-room in-order ∙ placed-long (textOf o n m) area l)) zero-number
         (λ q. omega (arith, q)))
 
     whole : writeCall fold o n m area ≡ wrote (length (textOf o n m)) (filled textBytes (textOf o n m) area)
@@ -220,28 +189,10 @@ module _ (fold : ℕ → ℕ) (folding : Folding fold) where
         λ other g. back o other n m (length w) area (filled textBytes w area) in-range g mine,
       )
 
-  ten-unread : (o : Areas) (n m : ℕ) (area : Bytes) → Lent o → textBytes ≤ length area → writeCall fold o n m area .number ≡ 10 → Readable fold o n m → ⊥
-  ten-unread o n m area lent l e r =
-      let w : wellFormed fold o n m ≡ true = round-trip fold folding .exact o n m lent .1 r in
-      let q : writeCall fold o n m area ≡ placed (textOf o n m) area = in-place fold o n m area (roomy o area (lent .0) l) w in
-      either (ltb textBytes (length (textOf o n m)))
-      (λ g. apart _ 12 10 (ap (λ (x : Written). x .number) q ∙ placed-long (textOf o n m) area g) e (λ i. omega (arith, i)))
-      (λ g. apart _ 0 10 (ap (λ (x : Written). x .number) (q ∙ placed-fits (textOf o n m) area g)) e (λ i. omega (arith, i)))
-
-  unread-ten : (o : Areas) (n m : ℕ) (area : Bytes) → Lent o → textBytes ≤ length area → (Readable fold o n m → ⊥) → writeCall fold o n m area .number ≡ 10
-  unread-ten o n m area lent l unread =
-      refused-ten fold o n m area (roomy o area (lent .0) l)
-      (not-true (wellFormed fold o n m) (λ w. unread (round-trip fold folding .exact o n m lent .0 w)))
-
-  -- what is written reads back, what is read is written, and 10 is given exactly where no book reads to the tables
+  -- what is written reads back, what is read is written, and each number is given exactly where document 01 gives it
   pub write-calls : WriteCalls fold
-  write-calls =
-      record {
-        written-read = back;
-        read-written = again;
-        ten = λ o n m area lent l. (ten-unread o n m area lent l, unread-ten o n m area lent l);
-      }
+  write-calls = record { written-read = back; read-written = again; judges = write-judges fold folding }
 
--- with document 01's letters: demand 2 between tables and text
+-- with document 01's letters: demand 1 for the writer, and demand 2 between tables and text
 pub books-written : WriteCalls folded
 books-written = write-calls folded ours

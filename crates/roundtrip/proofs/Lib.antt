@@ -5,4 +5,5 @@ pub mod Written
 pub mod Order
 pub mod Back
 pub mod Theorems
+pub mod Judging
 pub mod Calls

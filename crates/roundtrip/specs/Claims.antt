@@ -1,18 +1,19 @@
--- Demand 2 between tables and text: what is claimed of writing. The theorems are in proofs/Theorems.antt.
+-- Demand 1 for the writer, and demand 2 between tables and text. Proved in proofs/Theorems.antt, Judging.antt and Calls.antt.
 -- Assumes nothing.
 use mathlib.Core.Path.{_≡_}
 use mathlib.Core.Bool.{true, false}
-use mathlib.Core.Logic.{_↔_}
+use mathlib.Core.Logic.{_⊎_, _↔_}
 use mathlib.Core.List.{List, _++_}
-use Prim.Native.Nat.{ℕ, _≤_}
+use Prim.Native.Nat.{ℕ, _≤_, _<_}
 use lib.ListN.{length, take, drop}
 use Rattle.limits.specs.Book.{textBytes, rules, nameArea, bodyArea}
+use Rattle.limits.specs.Cause.{OneOf, writeCauses}
 use Rattle.words.specs.Row.{Words}
 use Rattle.grammar.specs.Bytes.{Bytes}
 use Rattle.grammar.specs.Grammar.{Clause}
 use Rattle.tables.specs.Numbering.{namesOf}
 use Rattle.tables.specs.Reading.{bookOf, read}
-use Rattle.tables.specs.Areas.{Areas, short, tablesOf, namesIn, rulesIn, readCall}
+use Rattle.tables.specs.Areas.{Areas, short, filled, tablesOf, namesIn, rulesIn, readCall}
 use Rattle.tables.specs.Writing.{Readable, wellFormed, written, Written, writeCall}
 use Rattle.tables.specs.Claims.{accepted}
 
@@ -55,7 +56,30 @@ over o old =
 abbrev pub wrote : ℕ → Bytes → Written
 wrote size text = record { number = 0; size = size; text = text }
 
--- demand 2 between the two calls
+-- and where it refuses: "number, zeros", "all as it was"
+abbrev pub unwritten : ℕ → Bytes → Written
+unwritten number area = record { number = number; size = 0; text = area }
+
+-- areas of their stated sizes, or longer, the text area too
+abbrev pub WriteLong : Areas → Bytes → Type 0
+WriteLong o area =
+    (nameArea ≤ length (o .spellings)) × (rules ≤ length (o .heads)) × (bodyArea ≤ length (o .bodies)) × (textBytes ≤ length area)
+
+-- demand 1 for the writer: each number exactly where document 01 gives it, and what is left then; r is what the call returns and leaves
+pub record WriteJudges (fold : ℕ → ℕ) (o : Areas) (n m : ℕ) (area : Bytes) (r : Written) : Type 0 where
+  pub accepts : (r .number ≡ 0) ↔ (WriteLong o area × Readable fold o n m × (length (textOf o n m) ≤ textBytes))
+  pub short : (r .number ≡ 1) ↔ (WriteLong o area → ⊥)
+  -- "exactly when no book, were its length free, reads to these tables"
+  pub ill-formed : (r .number ≡ 10) ↔ (WriteLong o area × (Readable fold o n m → ⊥))
+  pub long-text : (r .number ≡ 12) ↔ (WriteLong o area × Readable fold o n m × (textBytes < length (textOf o n m)))
+  -- 0 and these are all its numbers
+  pub no-other : (r .number ≡ 0) ⊎ OneOf (r .number) writeCauses
+  -- on acceptance the text and its size; "zero after the text", and what lies past the stated size as it was
+  pub left : r .number ≡ 0 → r ≡ wrote (length (textOf o n m)) (filled textBytes (textOf o n m) area)
+  -- on every refusal all as it was
+  pub kept : OneOf (r .number) writeCauses → r ≡ unwritten (r .number) area
+
+-- demands 1 and 2 for the two calls
 pub record WriteCalls (fold : ℕ → ℕ) : Type 0 where
   -- reading what was written, into any areas, gives the same counts and tables
   pub written-read : (o old : Areas) (n m size : ℕ) (area text : Bytes) → Words (o .bodies) → short old ≡ false
@@ -65,6 +89,5 @@ pub record WriteCalls (fold : ℕ → ℕ) : Type 0 where
       → readCall fold t old ≡ accepted n m o
       → (size : ℕ) × (text : Bytes) × (writeCall fold o n m area ≡ wrote size text) × (size ≤ length t)
       × ((other : Areas) → short other ≡ false → readCall fold (take size text) other ≡ accepted n m (over o other))
-  -- 10 exactly where no book, were its length free, reads to the tables
-  pub ten : (o : Areas) (n m : ℕ) (area : Bytes) → Lent o → textBytes ≤ length area
-      → (writeCall fold o n m area .number ≡ 10) ↔ (Readable fold o n m → ⊥)
+  -- every number of the writer, for body words in range, as those of every lent area are
+  pub judges : (o : Areas) (n m : ℕ) (area : Bytes) → Words (o .bodies) → WriteJudges fold o n m area (writeCall fold o n m area)

@@ -1,16 +1,17 @@
 -- The rule of the folding table, by one test that is computed over the whole table and carried to each entry.
 -- Assumes nothing.
-use mathlib.Core.Path.{_≡_, refl}
+use mathlib.Core.Path.{_≡_, refl, sym, _∙_, fun-ext}
 use mathlib.Core.Bool.{Bool, true, _&&_, _||_, not}
 use mathlib.Core.List.{List, [], _∷_}
 use Prim.Native.Nat.{ℕ, _<_}
-use lib.Dec.{eqb}
+use lib.Dec.{eqb, ltb}
 use lib.ListN.{getD}
-use borrow.Author.Tests.{eqb-true}
+use borrow.Author.Tests.{eqb-true, ltb-true, ltb-false}
 use Rattle.sets.specs.Set.{pick, every}
-use Rattle.sets.proofs.Logic.{clash, and-left, and-right, or-elim, of-not}
+use Rattle.sets.proofs.Logic.{either, pick-true, pick-false, clash, and-left, and-right, or-elim, of-not}
 use Rattle.sets.proofs.Tests.{every-at}
-use Rattle.grammar.specs.Bytes.{blank, reserved, small, folded}
+use Rattle.grammar.specs.Bytes.{blank, reserved, small, folded, letters}
+use Rattle.grammar.proofs.Folding.{past-bytes}
 
 -- the entries of the code's table
 unfoldable pub entries : List ℕ
@@ -64,3 +65,12 @@ demanded b l =
       none = λ p. or-elim _ _ (and-right (eqb (entry b) 0 || eqb (entry (entry b)) (entry b)) _ more)
           (λ e. clash p (of-not (reserved b) e)) (λ e. eqb-true _ _ e);
     }
+
+-- the table's letters are document 01's: at each byte by that rule, and past the bytes both are 0
+pub ours : letters entries ≡ folded
+unfolding letters
+ours =
+    fun-ext
+    (λ b.
+    either (ltb b 256) (λ e. pick-true (entry b) 0 e ∙ demanded b (ltb-true b 256 e) .folds)
+    (λ e. pick-false (entry b) 0 e ∙ sym (past-bytes b (ltb-false b 256 e))))

@@ -7,15 +7,12 @@ use Prim.Native.Nat.{ℕ, _+_, _*_, _/_, _%_, _^_, _<_}
 use native.Mathlib.Nat.{mod-mod-of-dvd, dvd-of-mod-eq-zero, add-mul-mod-self-right}
 use native.Mathlib.Omega.{arith}
 use lib.ListN.{length, getD, drop}
-use Rattle.grammar.specs.Bytes.{Bytes, nameByte, folded}
-use Rattle.grammar.specs.Lines.{span, run}
+use Rattle.grammar.specs.Bytes.{Bytes, nameByte}
+use Rattle.grammar.specs.Lines.{span}
 use Rattle.scan.specs.Hash.{buckets, hashStep, hashFrom}
+use Rattle.scan.specs.Places.{nameFolded}
 use Rattle.grammar.proofs.Spans.{run-none}
 use Rattle.scan.proofs.Scans.{run-on}
-
--- the folded run of name bytes at a place
-abbrev pub spelt : Bytes → ℕ → Bytes
-spelt t i = map folded (run (nameByte folded) (drop i t))
 
 -- what the running hash is reduced by
 abbrev pub hashes : ℕ
@@ -29,16 +26,16 @@ step-wide h b =
     mod-mod-of-dvd buckets (h * 31 + b) (dvd-of-mod-eq-zero buckets refl) ∙ ap (λ (x : ℕ). x % buckets) split
     ∙ add-mul-mod-self-right (h % buckets * 31 + b) (h / buckets * 31) buckets
 
-module _ (t : Bytes) (i h e : ℕ) (so : hashFrom (h % buckets) (spelt t i) ≡ e) where
+module _ (fold : ℕ → ℕ) (t : Bytes) (i h e : ℕ) (so : hashFrom (h % buckets) (nameFolded fold t i) ≡ e) where
   -- with one byte more, what is left to do equals what there was to do
-  pub hash-on : (r : ℕ) → i < length t → r ≡ folded (getD t i 0) → nameByte folded (getD t i 0) ≡ true
-      → hashFrom ((h * 31 + r) % hashes % buckets) (spelt t (i + 1)) ≡ e
+  pub hash-on : (r : ℕ) → i < length t → r ≡ fold (getD t i 0) → nameByte fold (getD t i 0) ≡ true
+      → hashFrom ((h * 31 + r) % hashes % buckets) (nameFolded fold t (i + 1)) ≡ e
   unfolding hashFrom
   hash-on r l q n =
-      ap (λ (x : ℕ). hashFrom x (spelt t (i + 1))) (step-wide h r ∙ ap (hashStep (h % buckets)) q)
-      ∙ sym (ap (λ (s : Bytes). hashFrom (h % buckets) (map folded s)) (run-on (nameByte folded) t i l n)) ∙ so
+      ap (λ (x : ℕ). hashFrom x (nameFolded fold t (i + 1))) (step-wide h r ∙ ap (hashStep (h % buckets)) q)
+      ∙ sym (ap (λ (s : Bytes). hashFrom (h % buckets) (map fold s)) (run-on (nameByte fold) t i l n)) ∙ so
 
   -- at the end of the run nothing is left
-  pub hash-end : span (nameByte folded) (drop i t) ≡ 0 → h % buckets ≡ e
+  pub hash-end : span (nameByte fold) (drop i t) ≡ 0 → h % buckets ≡ e
   unfolding hashFrom
-  hash-end z = sym (ap (λ (s : Bytes). hashFrom (h % buckets) (map folded s)) (run-none (nameByte folded) (drop i t) z)) ∙ so
+  hash-end z = sym (ap (λ (s : Bytes). hashFrom (h % buckets) (map fold s)) (run-none (nameByte fold) (drop i t) z)) ∙ so

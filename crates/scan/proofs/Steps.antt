@@ -6,7 +6,7 @@ use Prim.Native.Nat.{ℕ}
 use lib.Dec.{eqb}
 use borrow.Author.Tests.{eq-eqb, ne-eqb, not-true, not-false}
 use Rattle.sets.proofs.Logic.{or-left, or-right}
-use Rattle.grammar.specs.Bytes.{blank, notEnd, nameByte, folded, space, lineEnd}
+use Rattle.grammar.specs.Bytes.{blank, notEnd, nameByte, space, lineEnd}
 use Rattle.scan.specs.declared.cursor.Cursor.{Cursor}
 
 -- a space, a tab, and any other byte
@@ -32,13 +32,13 @@ unfolding notEnd
 in-line b h = ap not (ne-eqb b lineEnd h)
 
 -- a byte with no entry, and one with an entry
-pub no-name : (b r : ℕ) → r ≡ folded b → r ≡ 0 → nameByte folded b ≡ false
+pub no-name : (fold : ℕ → ℕ) (b r : ℕ) → r ≡ fold b → r ≡ 0 → nameByte fold b ≡ false
 unfolding nameByte
-no-name b r q e = ap not (eq-eqb (folded b) 0 (sym q ∙ e))
+no-name fold b r q e = ap not (eq-eqb (fold b) 0 (sym q ∙ e))
 
-pub of-name : (b r : ℕ) → r ≡ folded b → (r ≡ 0 → ⊥) → nameByte folded b ≡ true
+pub of-name : (fold : ℕ → ℕ) (b r : ℕ) → r ≡ fold b → (r ≡ 0 → ⊥) → nameByte fold b ≡ true
 unfolding nameByte
-of-name b r q h = ap not (ne-eqb (folded b) 0 (λ e. h (q ∙ e)))
+of-name fold b r q h = ap not (ne-eqb (fold b) 0 (λ e. h (q ∙ e)))
 
 -- a cursor whose place is known
 pub set-to : (line a e : ℕ) → a ≡ e → _≡_ {A = Cursor} (record { at = a; line = line }) (record { at = e; line = line })

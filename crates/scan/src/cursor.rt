@@ -2,15 +2,15 @@
 use crate::table::fold;
 use limits::Book;
 ghost use mathlib.Core.Path.{_≡_};
-ghost use mathlib.Core.List.{map};
 ghost use Prim.Native.Nat.{_+_, _<_};
 ghost use lib.ListN.{length, drop};
 ghost use Rattle.limits.specs.Book.{textBytes};
-ghost use Rattle.grammar.specs.Bytes.{space, lineEnd, colon, hash, blank, notEnd, nameByte, folded};
+ghost use Rattle.grammar.specs.Bytes.{space, lineEnd, colon, hash, blank, notEnd, nameByte, letters};
 ghost use Rattle.grammar.specs.Grammar.{mark};
-ghost use Rattle.grammar.specs.Lines.{span, run, starts};
+ghost use Rattle.grammar.specs.Lines.{starts};
 ghost use Rattle.scan.specs.Fold.{FoldTable};
 ghost use Rattle.scan.specs.Hash.{hashOf};
+ghost use Rattle.scan.specs.Places.{pastAt, nameFolded};
 
 pub struct Cursor {
     pub at: usize,
@@ -64,9 +64,29 @@ impl Cursor {
         Cursor::MARK
     }
 
+    // At the first line after the mark, line 2.
+    pub fn first_line() -> Cursor
+        ensures { λ r. ⌜ r ≡ record { at = length mark; line = 2 } ⌝ }
+    {
+        Cursor {
+            at: Cursor::MARK_BYTES,
+            line: 2,
+        }
+    }
+
+    // At another place of the cursor's line.
+    pub fn moved(self, at: usize) -> Cursor
+        ensures { λ r. ⌜ r ≡ record { at = at; line = self .line } ⌝ }
+    {
+        Cursor {
+            at,
+            line: self.line,
+        }
+    }
+
     // Past the blanks at the cursor.
     pub fn past_blanks(self, text: &[u8]) -> Cursor
-        ensures { λ r. ⌜ r ≡ record { at = self .at + span blank (drop (self .at) (now (text .entry))); line = self .line } ⌝ }
+        ensures { λ r. ⌜ r ≡ record { at = pastAt blank (now (text .entry)) (self .at); line = self .line } ⌝ }
     {
         let mut i = self.at;
         while i < text.len() {
@@ -84,7 +104,7 @@ impl Cursor {
 
     // At the end of the cursor's line.
     pub fn past_line(self, text: &[u8]) -> Cursor
-        ensures { λ r. ⌜ r ≡ record { at = self .at + span notEnd (drop (self .at) (now (text .entry))); line = self .line } ⌝ }
+        ensures { λ r. ⌜ r ≡ record { at = pastAt notEnd (now (text .entry)) (self .at); line = self .line } ⌝ }
     {
         let mut i = self.at;
         while i < text.len() {
@@ -121,8 +141,8 @@ impl Cursor {
     // The run of name bytes at the cursor.
     pub fn word(self, text: &[u8], table: &[u8]) -> Word
         requires { ⌜ FoldTable (now table) ⌝ }
-        ensures ends { λ r. ⌜ r .end ≡ self .at + span (nameByte folded) (drop (self .at) (now (text .entry))) ⌝ }
-        ensures bucket { λ r. ⌜ r .bucket ≡ hashOf (map folded (run (nameByte folded) (drop (self .at) (now (text .entry))))) ⌝ }
+        ensures ends { λ r. ⌜ r .end ≡ pastAt (nameByte (letters (now (table .entry)))) (now (text .entry)) (self .at) ⌝ }
+        ensures bucket { λ r. ⌜ r .bucket ≡ hashOf (nameFolded (letters (now (table .entry))) (now (text .entry)) (self .at)) ⌝ }
     {
         let mut i = self.at;
         let mut h = 0;

@@ -1,6 +1,6 @@
 // The folding table of document 01: one entry for each byte value, 0 for a byte that no name has, else the small letter.
 ghost use mathlib.Core.Path.{_≡_};
-ghost use Rattle.grammar.specs.Bytes.{folded};
+ghost use Rattle.grammar.specs.Bytes.{folded, letters};
 ghost use Rattle.scan.specs.Fold.{FoldTable};
 
 const FOLD: [u8; 256] = [
@@ -264,15 +264,16 @@ const FOLD: [u8; 256] = [
 
 // The table, for a call to lend on: so it is laid down once a call and not once a byte.
 pub fn folding() -> [u8; 256]
-    ensures { λ r. ⌜ FoldTable r ⌝ }
+    ensures table { λ r. ⌜ FoldTable r ⌝ }
+    ensures ours { λ r. ⌜ letters r ≡ folded ⌝ }
 {
     FOLD
 }
 
-// The entry of byte b in a folding table.
+// The letter of byte b in a lent table.
 pub fn fold(table: &[u8], b: u8) -> u8
     requires { ⌜ FoldTable (now table) ⌝ }
-    ensures { λ r. ⌜ r ≡ folded b ⌝ }
+    ensures { λ r. ⌜ r ≡ letters (now (table .entry)) b ⌝ }
 {
     table[b as usize]
 }

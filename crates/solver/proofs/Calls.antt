@@ -1,57 +1,69 @@
--- The outcomes of the call: laws over what each stage answers and leaves.
+-- The outcomes of the call: laws over what each step answers and leaves.
 -- Assumes nothing.
 use mathlib.Core.Path.{_≡_, refl, sym, ap, ap₂, _∙_, subst}
 use mathlib.Core.Bool.{Bool, true, false}
-use mathlib.Core.List.{List, []}
+use mathlib.Core.List.{List}
 use Prim.Native.Nat.{ℕ, suc, _+_, _*_, _≤_, _<_}
 use native.Mathlib.Omega.{arith}
-use lib.Dec.{ltb}
+use lib.Dec.{eqb, ltb}
 use lib.ListN.{length}
-use borrow.Author.Tests.{lt-ltb, le-ltb, ltb-true, ltb-false}
-use Rattle.limits.specs.Book.{textBytes, names, nameBytes, atoms, folds, rowWords, nameArea, rowArea, listingBytes}
-use Rattle.sets.specs.Set.{Same, count}
-use Rattle.sets.proofs.Logic.{either, not-true, pick-true, pick-false}
-use Rattle.sets.proofs.Counting.{count-same}
-use Rattle.program.specs.Program.{Program, WellFormed}
-use Rattle.program.specs.System.{System, folded as after, roundsOf, heldBy}
-use Rattle.program.specs.System as System
+use borrow.Author.Tests.{eq-eqb, ne-eqb, lt-ltb, le-ltb, ltb-true, ltb-false}
+use Rattle.limits.specs.Book.{textBytes, names, nameBytes, atoms, folds, rowWords, nameArea, listingBytes}
+use Rattle.sets.specs.Set.{Same}
+use Rattle.sets.proofs.Logic.{either, pick-true, pick-false}
+use Rattle.sets.proofs.Running.{rounds-few}
+use Rattle.program.specs.Program.{Program}
+use Rattle.program.specs.System.{System, round, folded as after, roundsOf, heldBy}
 use Rattle.program.specs.Standard.{standard}
 use Rattle.program.proofs.Homes.{names-below}
+use Rattle.program.proofs.Theorems.{least-model}
 use Rattle.grammar.specs.Bytes.{Bytes, folded}
 use Rattle.grammar.specs.Grammar.{Clause}
 use Rattle.grammar.proofs.Folding.{folding}
 use Rattle.tables.specs.Numbering.{namesOf, programOf}
-use Rattle.tables.specs.Reading.{Reading, read, refused, Fits, bookOf, reading}
-use Rattle.tables.specs.Areas.{Areas, RuleTables, Counts, Outcome, countsOf, rulesOf, short, filled, nameRows, filledWith, tablesOf, refusal, outcome, readCall, namesIn}
+use Rattle.tables.specs.Reading.{Reading, read, refused, Fits, bookOf}
+use Rattle.tables.specs.Areas.{Areas, RuleTables, Counts, Outcome, countsOf, rulesOf, short, filled, nameRows, filledWith, tablesOf}
+use Rattle.tables.specs.Areas.{refusal, outcome, namesIn, programIn}
 use Rattle.tables.proofs.Numbering.{numbers}
-use Rattle.tables.proofs.Calls.{refusal-range}
-use Rattle.tables.proofs.Judging.{reading-short}
+use Rattle.tables.proofs.Calls.{refusal-some}
 use Rattle.tables.proofs.Encoding.{length-nameRows, length-filled, names-filled}
 use Rattle.tables.proofs.Theorems.{judged, read-fits, read-fine}
-use Rattle.systems.specs.Rows.{RowAreas, packed, below, formedRows}
-use Rattle.systems.specs.Fold.{FoldOutcome, shortRows, foldedArea, foldCall}
-use Rattle.systems.specs.Rounds.{RoundsOutcome, modelIn, withModel, formedSystem, roundsCall}
-use Rattle.systems.specs.Standardise.{StandardOutcome, formedTables, standardRefusal, standardRows, standardOf, standardCall}
-use Rattle.systems.specs.Claims.{FoldLong, FoldFormed, RoundsLong, TablesLong, StandardLong}
-use Rattle.systems.proofs.Formed.{formed-make}
-use Rattle.systems.proofs.Folds.{rows-short, formed-all, fold-good, folds-rows}
+use Rattle.systems.specs.Rows.{below}
+use Rattle.systems.specs.Rounds.{modelIn, withModel}
+use Rattle.systems.specs.Standardise.{formedTables}
+use Rattle.systems.specs.Claims.{TablesLong}
 use Rattle.systems.proofs.Bridge.{tables-formed}
-use Rattle.systems.proofs.Running.{length-model, model-below, runs}
-use Rattle.systems.proofs.Standard.{standardWell}
-use Rattle.solving.specs.Listing.{listed}
+use Rattle.systems.proofs.Running.{length-model, model-below, round-mono}
 use Rattle.solving.specs.Solve.{SolveAreas, SolveOutcome, shortAreas, solveRefusal, answerOf, solvedAreas, solveRead, solveCall}
 use Rattle.solving.specs.SolveClaims.{SolveLong}
-use Rattle.solving.proofs.Judging.{areas-long, long-tables, solve-short, solve-long-text, solve-over-folds, solve-in-range}
+use Rattle.solving.proofs.Judging.{areas-long, long-areas, long-tables, solve-short, solve-long-text, solve-over-folds, solve-in-range}
 use Rattle.solving.proofs.Judging.{solve-refused, solve-over-atoms, solve-solved}
-use Rattle.solving.proofs.Staged.{book-formed, book-long, read-standard, standard-fold, folded-run}
-use Rattle.rounds.proofs.Calls.{accepted}
+use Rattle.solving.proofs.Staged.{tables-program, book-formed, book-long}
+use Rattle.listing.specs.Write.{Listing, listingOf}
 use Rattle.solver.specs.Range.{tooShort, rangeCause}
+use Rattle.solver.specs.Run.{RunAreas, RunOutcome, Ready, runRefusal, rowsLeft, runMade, runOf}
+use Rattle.solver.specs.End.{listedEnd}
 use Rattle.solver.specs.declared.Answer.{Answer}
+use Rattle.solver.specs.declared.Solved.{Solved}
 use Rattle.solver.proofs.Range.{cause-short, cause-text, cause-folds, cause-none}
-use Rattle.solver.proofs.Listed.{listed-same}
+use Rattle.solver.proofs.Listed.{listing-same}
+
+-- the areas by tables, rows and listing
+abbrev areasOf : Areas → RunAreas → Bytes → SolveAreas
+areasOf o rows listing =
+    record { tables = o; all = rows .all; any = rows .any; spare = rows .spare; model = rows .model; listing = listing }
+
+abbrev pub lent : Bytes → List ℕ → List ℕ → List ℕ → List ℕ → List ℕ → List ℕ → Bytes → SolveAreas
+lent spellings heads bodies all any spare model listing =
+    areasOf (record { spellings = spellings; heads = heads; bodies = bodies })
+    (record { all = all; any = any; spare = spare; model = model }) listing
+
+-- those of the rows
+abbrev runIn : SolveAreas → RunAreas
+runIn o = record { all = o .all; any = o .any; spare = o .spare; model = o .model }
 
 -- what the call answers and leaves
-abbrev pub gives : Answer → SolveAreas → SolveOutcome
+abbrev gives : Answer → SolveAreas → SolveOutcome
 gives r o =
     record {
       answer =
@@ -68,55 +80,50 @@ gives r o =
       areas = o;
     }
 
--- what the reader answers and leaves
-abbrev readerGives : ℕ → ℕ → ℕ → ℕ → Areas → Outcome
-readerGives q line n m o = record { answer = record { number = q; line = line; names = n; rules = m }; areas = o }
+-- a refusal
+abbrev refusedAs : ℕ → ℕ → Solved
+refusedAs number line =
+    record {
+      answer = record { number = number; line = line; names = 0; atoms = 0; held = 0; rounds = 0; c = 0; h = 0 };
+      end = 0;
+    }
 
--- the areas by tables and rows
-abbrev areasOf : Areas → RowAreas → List ℕ → Bytes → SolveAreas
-areasOf o rows spare listing =
-    record { tables = o; all = rows .all; any = rows .any; spare = spare; model = rows .model; listing = listing }
-
--- the answer of a refusal
-abbrev refusedAs : ℕ → ℕ → Answer
-refusedAs number line = record { number = number; line = line; names = 0; atoms = 0; held = 0; rounds = 0; c = 0; h = 0 }
-
--- outcomes that are the same in every part
-same-outcome : {n n′ a a′ held held′ s s′ c c′ h h′ : ℕ} {o o′ : Areas} {x x′ y y′ u u′ v v′ w w′ : List ℕ}
-    → n ≡ n′ → a ≡ a′ → held ≡ held′ → s ≡ s′ → c ≡ c′ → h ≡ h′ → o ≡ o′ → x ≡ x′ → y ≡ y′ → u ≡ u′ → v ≡ v′ → w ≡ w′
-    → _≡_ {A = SolveOutcome}
+-- solved, by what reading, the rounds and the listing give
+abbrev solvedAs : Outcome → RunOutcome → Listing → SolveOutcome
+solvedAs r s l =
+    gives
     (record {
-      answer = record { number = 0; line = 0; names = n; atoms = a; held = held; rounds = s; c = c; h = h };
-      areas = record { tables = o; all = x; any = y; spare = u; model = v; listing = w };
+      number = 0;
+      line = 0;
+      names = r .answer .names;
+      atoms = s .atoms;
+      held = l .held;
+      rounds = s .rounds;
+      c = s .c;
+      h = s .h;
     })
-    (record {
-      answer = record { number = 0; line = 0; names = n′; atoms = a′; held = held′; rounds = s′; c = c′; h = h′ };
-      areas = record { tables = o′; all = x′; any = y′; spare = u′; model = v′; listing = w′ };
-    })
-same-outcome e1 e2 e3 e4 e5 e6 e7 e8 e9 e10 e11 e12 = cc
+    (areasOf (r .areas) (s .areas) (l .area))
 
--- the text is a book, whose names and rules are counted and left
-pub record BookRead (t : Bytes) (old : Areas) (n m : ℕ) (o : Areas) : Type 0 where
-  pub cs : List Clause
-  pub reads : bookOf folded t ≡ read cs
-  pub names-are : n ≡ length (namesOf cs)
-  pub rules-are : m ≡ length cs
-  pub left : o ≡ tablesOf cs old
+-- nothing is listed of a refusal
+pub end-refused : {r : Solved} {number line : ℕ} → r ≡ refusedAs number line → (number ≡ 0 → ⊥) → (x : Reading) (k : ℕ)
+    → r .end ≡ listedEnd (r .answer .number) x k
+unfolding listedEnd
+end-refused e some (refused q i) k = ap (λ (s : Solved). s .end) e
+end-refused {r} {number} e some (read cs) k =
+    ap (λ (s : Solved). s .end) e
+    ∙ sym (pick-false _ 0 (ap (λ (s : Solved). eqb (s .answer .number) 0) e ∙ ne-eqb number 0 some))
+
+-- areas, text and fold number are in range
+pub record Ranged (t : Bytes) (k : ℕ) (o : SolveAreas) : Type 0 where
+  pub long : SolveLong o
+  pub text : length t ≤ textBytes
+  pub few : k ≤ folds
 
 -- `low` is whether an area is too short, `number` the cause before the text is read
-module _ (t : Bytes) (k : ℕ) (spellings : Bytes) (heads bodies all any spare model : List ℕ) (listing : Bytes) (low : Bool)
-    (e : low ≡ tooShort (length spellings) (length heads) (length bodies) (length all) (length any) (length spare) (length model) (length listing))
-    (number : ℕ) (f : number ≡ rangeCause low (length t) k) where
-  -- the tables, the rows and all the areas as they were
-  abbrev tables : Areas
-  tables = record { spellings = spellings; heads = heads; bodies = bodies }
-
-  abbrev rows : RowAreas
-  rows = record { all = all; any = any; model = model }
-
-  abbrev old : SolveAreas
-  old = areasOf tables rows spare listing
-
+module _ (t : Bytes) (k : ℕ) (old : SolveAreas) {low : Bool}
+    (e : low ≡ tooShort (length (old .tables .spellings)) (length (old .tables .heads)) (length (old .tables .bodies))
+    (length (old .all)) (length (old .any)) (length (old .spare)) (length (old .model)) (length (old .listing)))
+    {number : ℕ} (f : number ≡ rangeCause low (length t) k) where
   -- the test is the solver's
   low-is : low ≡ shortAreas old
   unfolding shortAreas short tooShort
@@ -124,8 +131,8 @@ module _ (t : Bytes) (k : ℕ) (spellings : Bytes) (heads bodies all any spare m
 
   -- the call is refused for the cause, or there is none and all is in range
   by-cause : {X : Type 0}
-      → ((j : ℕ) → number ≡ suc j → solveCall folded t k old ≡ solveRefusal (suc j) 0 tables old → X)
-      → (number ≡ 0 → (shortAreas old ≡ false) × (length t ≤ textBytes) × (k ≤ folds) → X)
+      → ((j : ℕ) → number ≡ suc j → solveCall folded t k old ≡ solveRefusal (suc j) 0 (old .tables) old → X)
+      → (number ≡ 0 → Ranged t k old → X)
       → X
   by-cause refuse pass =
       either low
@@ -144,278 +151,233 @@ module _ (t : Bytes) (k : ℕ) (spellings : Bytes) (heads bodies all any spare m
       refuse 8 (f ∙ sym (cause-folds low (length t) k x fits l)) (solve-over-folds folded t k old long fits l))
       (λ z.
       let l : k ≤ folds = ltb-false folds k z in
-      pass (f ∙ sym (cause-none low (length t) k x fits l)) (long, fits, l))))
+      pass (f ∙ sym (cause-none low (length t) k x fits l)) (record { long = areas-long old long; text = fits; few = l }))))
 
   -- refused before the text is read
-  pub call-early : (r : Answer) → r ≡ refusedAs number 0 → (number ≡ 0 → ⊥) → gives r old ≡ solveCall folded t k old
-  call-early r d some =
+  pub call-early : {r : Solved} → r ≡ refusedAs number 0 → (number ≡ 0 → ⊥) → gives (r .answer) old ≡ solveCall folded t k old
+  call-early d some =
       by-cause
-      (λ j q s. ap (λ (x : Answer). gives x old) d ∙ ap (λ (i : ℕ). solveRefusal i 0 tables old) q ∙ sym s)
+      (λ j q s. ap (λ (x : Solved). gives (x .answer) old) d ∙ ap (λ (i : ℕ). solveRefusal i 0 (old .tables) old) q ∙ sym s)
       (λ z range. absurd (some z))
 
-  -- no cause: the text is read, which answers q, `line`, n and m
-  module _ (z : number ≡ 0) (q line n m : ℕ) (spellings₁ : Bytes) (heads₁ bodies₁ : List ℕ)
-      (g : readerGives q line n m (record { spellings = spellings₁; heads = heads₁; bodies = bodies₁ }) ≡ readCall folded t tables) where
-    -- the tables after it, and what it gives
-    abbrev tables₁ : Areas
-    tables₁ = record { spellings = spellings₁; heads = heads₁; bodies = bodies₁ }
+  -- no cause
+  pub ranged : number ≡ 0 → Ranged t k old
+  ranged z = by-cause (λ j p s. absurd (omega (arith, p, z))) (λ p range. range)
 
-    abbrev reader : Outcome
-    reader = readerGives q line n m tables₁
+-- what a text comes to by the letters of a table that are ours is what it comes to by ours
+pub by-ours : (fold : ℕ → ℕ) (t : Bytes) (o : Areas) {r : Outcome} → fold ≡ folded → r ≡ outcome (bookOf fold t) o → r ≡ outcome (bookOf folded t) o
+by-ours fold t o e g = g ∙ ap (λ (f : ℕ → ℕ). outcome (bookOf f t) o) e
 
-    in-range : (shortAreas old ≡ false) × (length t ≤ textBytes) × (k ≤ folds)
-    in-range = by-cause (λ j p s. absurd (omega (arith, p, z))) (λ p range. range)
+-- a text that is refused has a number
+some-cause : (t : Bytes) (i j : ℕ) → bookOf folded t ≡ refused i j → i ≡ 0 → ⊥
+some-cause t i j b = refusal-some folded t i j (judged folded folding .refuses t i j .0 b)
 
-    -- the areas have their stated sizes
-    long : SolveLong old
-    long = areas-long old (in-range .0)
+-- the text is a book, whose names and rules are counted and left
+record BookRead (t : Bytes) (old : Areas) (r : Outcome) : Type 0 where
+  cs : List Clause
+  reads : bookOf folded t ≡ read cs
+  left : r ≡ outcome (read cs) old
 
-    -- what the reader gives, by what the text comes to
-    reader-is : reader ≡ outcome (bookOf folded t) tables
-    unfolding readCall
-    reader-is =
-        g ∙ pick-false (refusal 1 0 tables) (outcome (reading folded t) tables) (long-tables old long)
-        ∙ ap (λ (x : Reading). outcome x tables) (reading-short folded t (in-range .1))
+-- the text is read, as r says
+module _ {t : Bytes} {k : ℕ} {old : SolveAreas} (range : Ranged t k old) {r : Outcome} (g : r ≡ outcome (bookOf folded t) (old .tables)) where
+  -- what the solver answers and leaves, x being what the text comes to
+  solver-is : (x : Reading) → bookOf folded t ≡ x → solveCall folded t k old ≡ solveRead x k old
+  solver-is x b =
+      solve-in-range folded t k old (long-areas old (range .long)) (range .text) (range .few)
+      ∙ ap (λ (y : Reading). solveRead y k old) b
 
-    -- what the solver answers and leaves, x being what the text comes to
-    solver-is : (x : Reading) → bookOf folded t ≡ x → solveCall folded t k old ≡ solveRead x k old
-    solver-is x b = solve-in-range folded t k old (in-range .0) (in-range .1) (in-range .2) ∙ ap (λ (y : Reading). solveRead y k old) b
+  -- refused by the reader
+  refused-by : (x : Reading) → bookOf folded t ≡ x → r ≡ outcome x (old .tables) → (r .answer .number ≡ 0 → ⊥)
+      → solveRefusal (r .answer .number) (r .answer .line) (r .areas) old ≡ solveCall folded t k old
+  unfolding outcome refusal
+  refused-by (read cs) b d some = absurd (some (ap (λ (o : Outcome). o .answer .number) d))
+  refused-by (refused i j) b d some =
+      ap (λ (o : Outcome). solveRefusal (o .answer .number) (o .answer .line) (o .areas) old) d
+      ∙ sym (solver-is (refused i j) b ∙ solve-refused i j k old)
 
-    -- refused by the reader
-    refused-by : (x : Reading) → bookOf folded t ≡ x → reader ≡ outcome x tables → (q ≡ 0 → ⊥)
-        → solveRefusal q line tables₁ old ≡ solveCall folded t k old
-    unfolding outcome refusal
-    refused-by (read cs) b d some = absurd (some (ap (λ (o : Outcome). o .answer .number) d))
-    refused-by (refused i j) b d some =
-        ap (λ (o : Outcome). solveRefusal (o .answer .number) (o .answer .line) (o .areas) old) d
-        ∙ sym (solver-is (refused i j) b ∙ solve-refused i j k old)
+  pub call-refused : {s : Solved} → s ≡ refusedAs (r .answer .number) (r .answer .line) → (r .answer .number ≡ 0 → ⊥)
+      → gives (s .answer) (areasOf (r .areas) (runIn old) (old .listing)) ≡ solveCall folded t k old
+  call-refused d some =
+      ap (λ (x : Solved). gives (x .answer) (areasOf (r .areas) (runIn old) (old .listing))) d ∙ refused-by (bookOf folded t) refl g some
 
-    pub call-refused : (r : Answer) → r ≡ refusedAs q line → (q ≡ 0 → ⊥)
-        → gives r (areasOf tables₁ rows spare listing) ≡ solveCall folded t k old
-    call-refused r d some =
-        ap (λ (x : Answer). gives x (areasOf tables₁ rows spare listing)) d
-        ∙ refused-by (bookOf folded t) refl reader-is some
+  -- else read
+  read-by : (x : Reading) → bookOf folded t ≡ x → r ≡ outcome x (old .tables) → r .answer .number ≡ 0 → BookRead t (old .tables) r
+  unfolding outcome refusal
+  read-by (read cs) b d none = record { cs = cs; reads = b; left = d }
+  read-by (refused i j) b d none = absurd (some-cause t i j b (sym (ap (λ (o : Outcome). o .answer .number) d) ∙ none))
 
-    -- else read
-    read-by : (x : Reading) → bookOf folded t ≡ x → reader ≡ outcome x tables → q ≡ 0 → BookRead t tables n m tables₁
-    unfolding outcome refusal
-    read-by (read cs) b d none =
+  module _ (none : r .answer .number ≡ 0) where
+    -- the book, its names and its program, which fit
+    book : BookRead t (old .tables) r
+    book = read-by (bookOf folded t) refl g none
+
+    abbrev ns : List Bytes
+    ns = namesOf (book .cs)
+
+    abbrev p : Program
+    p = programOf (book .cs)
+
+    fits : Fits (book .cs)
+    fits = let l = read-fits folded folding t (book .cs) (book .reads) in record { rules-fit = l .0; names-fit = l .1 }
+
+    -- what is left, part by part
+    names-are : r .answer .names ≡ length ns
+    unfolding outcome
+    names-are = ap (λ (o : Outcome). o .answer .names) (book .left)
+
+    tables-are : r .areas ≡ tablesOf (book .cs) (old .tables)
+    unfolding outcome
+    tables-are = ap (λ (o : Outcome). o .areas) (book .left)
+
+    -- the rule tables and the counts are the book's
+    abbrev rules-left : RuleTables
+    rules-left = rulesOf (r .areas)
+
+    abbrev counts : Counts
+    counts = record { names = r .answer .names; rules = r .answer .rules }
+
+    rules-are : rules-left ≡ rulesOf (tablesOf (book .cs) (old .tables))
+    rules-are = ap rulesOf tables-are
+
+    counts-are : counts ≡ countsOf (book .cs)
+    unfolding outcome
+    counts-are = ap (λ (o : Outcome). record { names = o .answer .names; rules = o .answer .rules }) (book .left)
+
+    -- the tables are long enough and in order
+    pub tables-ready : Ready rules-left counts k (runIn old)
+    tables-ready =
+        let l = range .long in
         record {
-          cs = cs;
-          reads = b;
-          names-are = ap (λ (o : Outcome). o .answer .names) d;
-          rules-are = ap (λ (o : Outcome). o .answer .rules) d;
-          left = ap (λ (o : Outcome). o .areas) d;
+          long = (subst TablesLong (sym rules-are) (book-long (book .cs) (old .tables) fits (long-tables old l)), (l .all, l .any, l .model));
+          spare = l .spare;
+          few = range .few;
+          formed = ap₂ formedTables rules-are counts-are ∙ tables-formed _ _ (book-formed (book .cs) (old .tables) fits);
         }
-    read-by (refused i j) b d none =
-        let w : 3 ≤ i = refusal-range folded t i j (judged folded folding .refuses t i j .0 b) .0 in
-        absurd (omega (arith, ap (λ (o : Outcome). o .answer .number) d, none))
 
-    module _ (none : q ≡ 0) where
-      -- the book, its program, and that they are in order
-      book : BookRead t tables n m tables₁
-      book = read-by (bookOf folded t) refl reader-is none
+    -- they give the book's program
+    program-is : programIn rules-left counts ≡ p
+    program-is = ap₂ programIn rules-are counts-are ∙ tables-program (book .cs) (old .tables) fits
 
-      abbrev p : Program
-      p = programOf (book .cs)
+    -- the rounds are made, as s says
+    module _ {s : RunOutcome} (g₂ : s ≡ runOf (programIn rules-left counts) k (runIn old)) where
+      -- the rows after the folds
+      abbrev made : System
+      made = after k (standard p)
 
-      fits : Fits (book .cs)
-      fits =
-          let l = read-fits folded folding t (book .cs) (book .reads) in
-          record { rules-fit = l .0; names-fit = l .1 }
+      -- over 256 atoms, or not
+      over : atoms < standard p .atoms → s ≡ runRefusal 8 (runIn old)
+      unfolding runOf
+      over l =
+          g₂ ∙ ap (λ (x : Program). runOf x k (runIn old)) program-is
+          ∙ pick-true (runRefusal 8 (runIn old)) (runMade made (runIn old)) (lt-ltb atoms (standard p .atoms) l)
 
-      well : WellFormed p
-      well = numbers (book .cs) .formed
+      good : standard p .atoms ≤ atoms → s ≡ runMade made (runIn old)
+      unfolding runOf
+      good l =
+          g₂ ∙ ap (λ (x : Program). runOf x k (runIn old)) program-is
+          ∙ pick-false (runRefusal 8 (runIn old)) (runMade made (runIn old)) (le-ltb atoms (standard p .atoms) l)
 
-      -- the rule tables and the counts that the reader leaves, which are the book's
-      abbrev rules₁ : RuleTables
-      rules₁ = rulesOf tables₁
+      -- refused for its atoms
+      pub call-over : {a : Solved} → a ≡ refusedAs (s .number) 0 → (s .number ≡ 0 → ⊥)
+          → gives (a .answer) (areasOf (r .areas) (s .areas) (old .listing)) ≡ solveCall folded t k old
+      unfolding runMade
+      call-over d some =
+          either (ltb atoms (standard p .atoms))
+          (λ x.
+          let l : atoms < standard p .atoms = ltb-true atoms (standard p .atoms) x in
+          ap (λ (y : Solved). gives (y .answer) (areasOf (r .areas) (s .areas) (old .listing))) d
+          ∙ ap₂ (λ (o : Areas) (y : RunOutcome). gives (refusedAs (y .number) 0 .answer) (areasOf o (y .areas) (old .listing))) tables-are (over l)
+          ∙ sym (solver-is (read (book .cs)) (book .reads) ∙ solve-over-atoms (book .cs) k old l))
+          (λ x. absurd (some (ap (λ (y : RunOutcome). y .number) (good (ltb-false atoms (standard p .atoms) x)))))
 
-      abbrev counts : Counts
-      counts = record { names = n; rules = m }
-
-      rules-left : rules₁ ≡ rulesOf (tablesOf (book .cs) tables)
-      rules-left = ap rulesOf (book .left)
-
-      counts-are : counts ≡ countsOf (book .cs)
-      counts-are i = record { names = book .names-are i; rules = book .rules-are i }
-
-      -- the tables are long enough and in order
-      pub standard-ready : StandardLong rules₁ rows × (formedTables rules₁ counts ≡ true)
-      standard-ready = (
-        (subst TablesLong (sym rules-left) (book-long (book .cs) tables fits (long-tables old long)), (long .all, long .any, long .model)),
-        ap₂ formedTables rules-left counts-are ∙ tables-formed _ _ (book-formed (book .cs) tables fits),
-      )
-
-      -- the tables are standardised, which answers q₂, a, c and h
-      module _ (q₂ a c h : ℕ) (all₁ any₁ model₁ : List ℕ)
-          (g₂ : record { number = q₂; atoms = a; c = c; h = h; areas = record { all = all₁; any = any₁; model = model₁ } }
-          ≡ standardCall rules₁ counts rows) where
-        -- the rows after it, and what it gives
-        abbrev rows₁ : RowAreas
-        rows₁ = record { all = all₁; any = any₁; model = model₁ }
-
-        abbrev standardised : StandardOutcome
-        standardised = record { number = q₂; atoms = a; c = c; h = h; areas = rows₁ }
-
-        -- what standardising gives, by the program
-        standardised-is : standardised ≡ standardOf p rows
-        standardised-is =
-            g₂ ∙ ap₂ (λ (x : RuleTables) (y : Counts). standardCall x y rows) rules-left counts-are
-            ∙ read-standard (book .cs) tables rows fits (long-tables old long) (long .all) (long .any) (long .model)
-
-        -- over 256 atoms, or not
-        over : atoms < standard p .atoms → standardised ≡ standardRefusal 8 rows
-        unfolding standardOf
-        over l = standardised-is ∙ pick-true (standardRefusal 8 rows) (standardWell p rows) (lt-ltb atoms (standard p .atoms) l)
-
-        good : standard p .atoms ≤ atoms → standardised ≡ standardWell p rows
-        unfolding standardOf
-        good l = standardised-is ∙ pick-false (standardRefusal 8 rows) (standardWell p rows) (le-ltb atoms (standard p .atoms) l)
-
-        -- refused for its atoms
-        pub call-over : (r : Answer) → r ≡ refusedAs q₂ 0 → (q₂ ≡ 0 → ⊥)
-            → gives r (areasOf tables₁ rows₁ spare listing) ≡ solveCall folded t k old
-        call-over r d some =
+      module _ (none₂ : s .number ≡ 0) where
+        -- at most 256 atoms
+        few : standard p .atoms ≤ atoms
+        few =
             either (ltb atoms (standard p .atoms))
-            (λ x.
-            let l : atoms < standard p .atoms = ltb-true atoms (standard p .atoms) x in
-            ap (λ (x : Answer). gives x (areasOf tables₁ rows₁ spare listing)) d
-            ∙ ap₂ (λ (o : Areas) (s : StandardOutcome). gives (refusedAs (s .number) 0) (areasOf o (s .areas) spare listing)) (book .left) (over l)
-            ∙ sym (solver-is (read (book .cs)) (book .reads) ∙ solve-over-atoms (book .cs) k old l))
-            (λ x. absurd (some (ap (λ (s : StandardOutcome). s .number) (good (ltb-false atoms (standard p .atoms) x)))))
+            (λ x. absurd (omega (arith, none₂, ap (λ (y : RunOutcome). y .number) (over (ltb-true atoms (standard p .atoms) x)))))
+            (ltb-false atoms (standard p .atoms))
 
-        module _ (none₂ : q₂ ≡ 0) where
-          -- at most 256 atoms
-          few : standard p .atoms ≤ atoms
-          few =
-              either (ltb atoms (standard p .atoms))
-              (λ x. absurd (omega (arith, none₂, ap (λ (o : StandardOutcome). o .number) (over (ltb-true atoms (standard p .atoms) x)))))
-              (ltb-false atoms (standard p .atoms))
+        -- the rounds and the last set are the program's
+        made-is : s ≡ runMade made (runIn old)
+        made-is = good few
 
-          -- the rows are the program's
-          rows-are : standardised ≡ standardWell p rows
-          rows-are = good few
+        rounds-are : s .rounds ≡ roundsOf made
+        unfolding runMade
+        rounds-are = ap (λ (y : RunOutcome). y .rounds) made-is
 
-          -- the system after k folds
-          abbrev made : System
-          made = after k (standard p)
+        model-is : s .areas .model ≡ withModel (below (standard p .atoms) (heldBy made)) (old .model)
+        unfolding runMade rowsLeft
+        model-is = ap (λ (y : RunOutcome). y .areas .model) made-is
 
-          -- folding them is not refused
-          fold-call : foldCall all₁ spare a k
-              ≡ record { number = 0; all = filled rowArea (packed rowWords (standard p .atoms) (made .all)) all; spare = filled rowArea [] spare }
-          fold-call =
-              ap (λ (o : StandardOutcome). foldCall (o .areas .all) spare (o .atoms) k) rows-are
-              ∙ standard-fold p well few rows spare k (long .all) (long .spare) (in-range .2)
+        -- which is at most one round more than there are atoms
+        few-rounds : roundsOf made ≤ standard p .atoms + 1
+        unfolding roundsOf
+        few-rounds =
+            rounds-few (made .atoms) (round made) (made .start) (round-mono made) (least-model p (numbers (book .cs) .formed) k .rounds .start)
 
-          -- so they are long enough and in order
-          fold-taken : FoldLong all₁ spare × (k ≤ folds) × FoldFormed all₁ a
-          fold-taken = folds-rows all₁ spare a k .accepts .0 (ap (λ (o : FoldOutcome). o .number) fold-call)
+        -- the listing can be written
+        pub listing-ready : (r .answer .names ≤ names) × (nameArea ≤ length (r .areas .spellings)) × (rowWords ≤ length (s .areas .model))
+            × (k ≤ folds) × (s .rounds ≤ atoms + 1) × (listingBytes ≤ length (old .listing))
+        unfolding tablesOf filledWith
+        listing-ready =
+            let few-names : length ns ≤ names = fits .names-fit in
+            let used : length (nameRows ns) ≡ length ns * nameBytes =
+            length-nameRows ns (λ a l. read-fine folded folding t (book .cs) (book .reads) a l .0) in
+            let area : length (r .areas .spellings) ≡ length (filled nameArea (nameRows ns) (old .tables .spellings)) =
+            ap (λ (o : Areas). length (o .spellings)) tables-are in (
+              omega (arith, few-names, names-are),
+              omega (
+                arith,
+                area,
+                length-filled nameArea (nameRows ns) (old .tables .spellings) (omega (arith, used, few-names)) (range .long .spellings),
+                range .long .spellings,
+              ),
+              omega (
+                arith,
+                ap length model-is,
+                length-model (below (standard p .atoms) (heldBy made)) (old .model) (range .long .model),
+                range .long .model,
+              ),
+              range .few,
+              omega (arith, rounds-are, few-rounds, few),
+              range .long .listing,
+            )
 
-          pub fold-ready : (a ≤ atoms) × (k ≤ folds) × (rowArea ≤ length all₁) × (rowArea ≤ length spare)
-              × (formedRows rowWords atoms a all₁ ≡ true)
-          fold-ready =
-              let l = fold-taken in
-              (l .2 .0, l .1, l .0 .0, l .0 .1, formed-make rowWords atoms a all₁ (l .2 .1))
+        -- the model area has the names held by the rounds
+        same-held : Same (length ns) (modelIn (s .areas .model)) (heldBy made)
+        unfolding programOf
+        same-held i l =
+            let few-atoms : length ns ≤ standard p .atoms = names-below p in
+            ap (λ (v : List ℕ). modelIn v i) model-is
+            ∙ model-below (standard p .atoms) (heldBy made) (old .model) (omega (arith, few)) i (omega (arith, l, few-atoms))
 
-          -- the rows are folded
-          module _ (all₂ spare₁ : List ℕ) (g₃ : all₂ ≡ foldedArea k a all₁) (clear : spare₁ ≡ filled rowArea [] spare) where
-            -- what the fold leaves, by the system
-            abbrev folding-made : FoldOutcome
-            folding-made = record { number = 0; all = all₂; spare = spare₁ }
+        -- the name area has the names of the book
+        names-left : namesIn (r .areas .spellings) (r .answer .names) ≡ ns
+        unfolding tablesOf filledWith
+        names-left =
+            ap₂ (λ (o : Areas) (i : ℕ). namesIn (o .spellings) i) tables-are names-are
+            ∙ names-filled ns (old .tables .spellings) (read-fine folded folding t (book .cs) (book .reads))
 
-            fold-is : folding-made
-                ≡ record { number = 0; all = filled rowArea (packed rowWords (standard p .atoms) (made .all)) all; spare = filled rowArea [] spare }
-            fold-is =
-                let l = fold-taken in
-                ap₂ (λ (x y : List ℕ). record { number = 0; all = x; spare = y }) g₃ clear
-                ∙ sym (fold-good all₁ spare a k (not-true (shortRows all₁ spare) (λ e. rows-short all₁ spare e (l .0))) (l .1) (formed-all all₁ a (l .2)))
-                ∙ fold-call
+        -- the listing is written, as l says: the book's
+        module _ {l : Listing}
+            (g₃ : l ≡ listingOf (namesIn (r .areas .spellings) (r .answer .names)) (modelIn (s .areas .model)) k (s .rounds) (old .listing)) where
+          listing-is : l ≡ listingOf ns (heldBy made) k (roundsOf made) (old .listing)
+          listing-is =
+              g₃ ∙ ap₂ (λ (xs : List Bytes) (i : ℕ). listingOf xs (modelIn (s .areas .model)) k i (old .listing)) names-left rounds-are
+              ∙ listing-same ns (modelIn (s .areas .model)) (heldBy made) k (roundsOf made) (old .listing) same-held
 
-            abbrev rows₂ : RowAreas
-            rows₂ = record { all = all₂; any = any₁; model = model₁ }
+          -- solved
+          pub call-done : solvedAs r s l ≡ solveCall folded t k old
+          unfolding outcome runMade rowsLeft listingOf answerOf solvedAreas programOf
+          call-done =
+              ap₂ (λ (x : Outcome) (y : RunOutcome). solvedAs x y l) (book .left) made-is
+              ∙ ap (solvedAs (outcome (read (book .cs)) (old .tables)) (runMade made (runIn old))) listing-is
+              ∙ sym (solver-is (read (book .cs)) (book .reads) ∙ solve-solved (book .cs) k old few)
 
-            -- the rounds over them are not refused
-            run-call : roundsCall rows₂ a
-                ≡ record { number = 0; rounds = roundsOf made; model = withModel (below (standard p .atoms) (heldBy made)) model }
-            run-call =
-                ap₂ (λ (f : FoldOutcome) (o : StandardOutcome).
-                roundsCall (record { all = f .all; any = o .areas .any; model = o .areas .model }) (o .atoms)) fold-is rows-are
-                ∙ folded-run p well few rows k (long .all) (long .any) (long .model)
-
-            -- so the folded rows and the start set are long enough and in order
-            pub run-ready : RoundsLong rows₂ × (formedSystem rows₂ a ≡ true)
-            run-ready = accepted rows₂ a (ap (λ (o : RoundsOutcome). o .number) run-call)
-
-            -- the rounds are made: s rounds
-            module _ (q₄ s : ℕ) (model₂ : List ℕ)
-                (g₄ : record { number = q₄; rounds = s; model = model₂ } ≡ roundsCall rows₂ a) where
-              -- what they give, by the system
-              abbrev rounds-made : RoundsOutcome
-              rounds-made = record { number = q₄; rounds = s; model = model₂ }
-
-              run-is : rounds-made
-                  ≡ record { number = 0; rounds = roundsOf made; model = withModel (below (standard p .atoms) (heldBy made)) model }
-              run-is = g₄ ∙ run-call
-
-              -- the listing can be written
-              pub listing-ready : (n ≤ names) × (nameArea ≤ length spellings₁) × (rowWords ≤ length model₂) × (k ≤ folds) × (s ≤ atoms + 1)
-                  × (listingBytes ≤ length listing)
-              unfolding tablesOf filledWith
-              listing-ready =
-                  let ns : List Bytes = namesOf (book .cs) in
-                  let few-names : length ns ≤ names = fits .names-fit in
-                  let area : length spellings₁ ≡ length (filled nameArea (nameRows ns) spellings) =
-                  ap (λ (o : Areas). length (o .spellings)) (book .left) in
-                  let used : length (nameRows ns) ≡ length ns * nameBytes =
-                  length-nameRows ns (λ a l. read-fine folded folding t (book .cs) (book .reads) a l .0) in
-                  let zero : roundsCall rows₂ a .number ≡ 0 = ap (λ (o : RoundsOutcome). o .number) run-call in
-                  let bound : s ≤ a + 1 =
-                  subst (λ (i : ℕ). i ≤ a + 1) (sym (ap (λ (o : RoundsOutcome). o .rounds) g₄)) (runs rows₂ a .bound zero) in
-                  let same-atoms : a ≡ standard p .atoms = ap (λ (o : StandardOutcome). o .atoms) rows-are in (
-                    omega (arith, few-names, book .names-are),
-                    omega (arith, area, length-filled nameArea (nameRows ns) spellings (omega (arith, used, few-names)) (long .spellings), long .spellings),
-                    omega (
-                      arith,
-                      ap (λ (o : RoundsOutcome). length (o .model)) run-is,
-                      length-model (below (standard p .atoms) (heldBy made)) model (long .model),
-                      long .model,
-                    ),
-                    in-range .2,
-                    omega (arith, bound, same-atoms, few),
-                    long .listing,
-                  )
-
-              -- the model area has the names held by the rounds
-              same-held : Same (length (namesOf (book .cs))) (modelIn model₂) (heldBy made)
-              unfolding programOf
-              same-held i l =
-                  let few-atoms : length (namesOf (book .cs)) ≤ standard p .atoms = names-below p in
-                  ap (λ (o : RoundsOutcome). modelIn (o .model) i) run-is
-                  ∙ model-below (standard p .atoms) (heldBy made) model (omega (arith, few)) i (omega (arith, l, few-atoms))
-
-              -- the name area has the names of the book
-              names-left : namesIn spellings₁ n ≡ namesOf (book .cs)
-              unfolding tablesOf filledWith
-              names-left =
-                  ap₂ (λ (o : Areas) (i : ℕ). namesIn (o .spellings) i) (book .left) (book .names-are)
-                  ∙ names-filled (namesOf (book .cs)) spellings (read-fine folded folding t (book .cs) (book .reads))
-
-              -- the listing is written: solved
-              pub call-done : (held : ℕ) (listing₁ : Bytes) → held ≡ count n (modelIn model₂)
-                  → listing₁ ≡ listed (namesIn spellings₁ n) (modelIn model₂) k s listing
-                  → gives (record { number = 0; line = 0; names = n; atoms = a; held = held; rounds = s; c = c; h = h })
-                  (record { tables = tables₁; all = all₂; any = any₁; spare = spare₁; model = model₂; listing = listing₁ })
-                  ≡ solveCall folded t k old
-              unfolding answerOf solvedAreas programOf standardRows System.c System.h System.anyHead
-              call-done held listing₁ counted written =
-                  let ns : List Bytes = namesOf (book .cs) in
-                  let rounds-are : s ≡ roundsOf made = ap (λ (o : RoundsOutcome). o .rounds) run-is in
-                  same-outcome (book .names-are) (ap (λ (o : StandardOutcome). o .atoms) rows-are)
-                  (counted ∙ ap (λ (i : ℕ). count i (modelIn model₂)) (book .names-are) ∙ count-same (length ns) (modelIn model₂) (heldBy made) same-held)
-                  rounds-are (ap (λ (o : StandardOutcome). o .c) rows-are) (ap (λ (o : StandardOutcome). o .h) rows-are) (book .left)
-                  (ap (λ (o : FoldOutcome). o .all) fold-is) (ap (λ (o : StandardOutcome). o .areas .any) rows-are) (ap (λ (o : FoldOutcome). o .spare) fold-is)
-                  (ap (λ (o : RoundsOutcome). o .model) run-is)
-                  (written ∙ ap₂ (λ (xs : List Bytes) (i : ℕ). listed xs (modelIn model₂) k i listing) names-left rounds-are
-                  ∙ listed-same ns (modelIn model₂) (heldBy made) k (roundsOf made) listing same-held)
-                  ∙ sym (solver-is (read (book .cs)) (book .reads) ∙ solve-solved (book .cs) k old few)
+          -- and the end is that of the listing's text
+          pub end-done : l .end ≡ listedEnd 0 (bookOf folded t) k
+          unfolding listingOf listedEnd
+          end-done =
+              ap (λ (x : Listing). x .end) listing-is ∙ sym (pick-true _ 0 (eq-eqb 0 0 refl))
+              ∙ sym (ap (λ (x : Reading). listedEnd 0 x k) (book .reads))

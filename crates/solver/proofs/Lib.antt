@@ -1,3 +1,4 @@
 pub mod Range
+pub mod Running
 pub mod Listed
 pub mod Calls

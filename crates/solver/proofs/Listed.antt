@@ -13,6 +13,7 @@ use Rattle.grammar.specs.Bytes.{Bytes}
 use Rattle.grammar.specs.Grammar.{joined}
 use Rattle.tables.specs.Areas.{filled}
 use Rattle.solving.specs.Listing.{headLine, heldNames, listingLines, listed}
+use Rattle.listing.specs.Write.{listingOf}
 
 -- the members among the k numbers from i on
 members-same : (k : ℕ) (f g : Set) (i : ℕ) → ((a : ℕ) → i ≤ a → a < i + k → f a ≡ g a) → members k f i ≡ members k g i
@@ -22,10 +23,13 @@ members-same (suc k) f g i s =
     ap₂ (λ (b : Bool) (xs : List ℕ). pick b (i ∷ xs) xs) (s i (omega arith) (omega arith))
     (members-same k f g (suc i) (λ a l b. s a (omega arith) (omega arith)))
 
--- the lines, and so the area
-pub listed-same : (ns : List Bytes) (f g : Set) (k rounds : ℕ) (old : Bytes) → Same (length ns) f g
-    → listed ns f k rounds old ≡ listed ns g k rounds old
-unfolding listed listingLines heldNames
-listed-same ns f g k rounds old s =
-    ap₂ (λ (n : ℕ) (held : List ℕ). filled listingBytes (joined (headLine (length ns) n k rounds ∷ map (λ a. getD ns a []) held)) old)
+-- the count, the lines, and so the area
+pub listing-same : (ns : List Bytes) (f g : Set) (k rounds : ℕ) (old : Bytes) → Same (length ns) f g
+    → listingOf ns f k rounds old ≡ listingOf ns g k rounds old
+unfolding listingOf listed listingLines heldNames
+listing-same ns f g k rounds old s =
+    ap₂
+    (λ (n : ℕ) (held : List ℕ).
+    let text : Bytes = joined (headLine (length ns) n k rounds ∷ map (λ a. getD ns a []) held) in
+    record { held = n; end = length text; area = filled listingBytes text old })
     (count-same (length ns) f g s) (members-same (length ns) f g 0 (λ a l b. s a (omega arith)))

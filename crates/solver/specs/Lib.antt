@@ -1,1 +1,3 @@
 pub mod Range
+pub mod Run
+pub mod End

@@ -1,13 +1,21 @@
 // The public call that solves a book: from text to listing; and its work in areas that may be known to be clear.
 use limits::Book;
 use limits::Refusal;
+use scan::table::folding;
 ghost use mathlib.Core.Path.{_≡_};
 ghost use mathlib.Core.Bool.{true};
-ghost use Rattle.limits.specs.Book.{rowArea};
+ghost use Prim.Native.Nat.{_≤_};
+ghost use lib.ListN.{length};
+ghost use Rattle.limits.specs.Book.{textBytes, rules, nameArea, bodyArea, rowArea};
 ghost use Rattle.rows.specs.Clear.{Clear};
 ghost use Rattle.grammar.specs.Bytes.{folded};
+ghost use Rattle.tables.specs.Reading.{bookOf};
+ghost use Rattle.tables.specs.Areas.{outcome};
 ghost use Rattle.solving.specs.Solve.{solveCall};
 ghost use Rattle.solver.specs.Range.{tooShort, rangeCause};
+ghost use Rattle.solver.specs.End.{listedEnd};
+
+pub mod run;
 
 // The number of a refusal with its line, 0 for none; then how many names, atoms, names held and rounds there are, c and h.
 pub struct Answer {
@@ -19,6 +27,12 @@ pub struct Answer {
     pub rounds: usize,
     pub c: usize,
     pub h: usize,
+}
+
+// The answer, and where the text of the listing ends, 0 for a refusal.
+pub struct Solved {
+    pub answer: Answer,
+    pub end: usize,
 }
 
 // Whether an area is shorter than its stated size, by their lengths.
@@ -75,10 +89,13 @@ fn cause(short: bool, text: usize, folds: usize) -> usize
 }
 
 // A refusal: the number, the line, and zeros.
-fn refused(number: usize, line: usize) -> Answer
-    ensures { λ r. ⌜ r ≡ record { number = number; line = line; names = 0; atoms = 0; held = 0; rounds = 0; c = 0; h = 0 } ⌝ }
+fn refused(number: usize, line: usize) -> Solved
+    ensures { λ r. ⌜ r ≡ record {
+      answer = record { number = number; line = line; names = 0; atoms = 0; held = 0; rounds = 0; c = 0; h = 0 };
+      end = 0;
+    } ⌝ }
 {
-    Answer {
+    let answer = Answer {
         number,
         line,
         names: 0,
@@ -87,7 +104,22 @@ fn refused(number: usize, line: usize) -> Answer
         rounds: 0,
         c: 0,
         h: 0,
-    }
+    };
+    Solved { answer, end: 0 }
+}
+
+// Reads a text of at most 16,384 bytes into areas of their stated sizes, by our letters.
+fn read(text: &[u8], spellings: &mut [u8], heads: &mut [u16], bodies: &mut [u64]) -> reader::Answer
+    requires { ⌜ (nameArea ≤ length (now spellings)) × (rules ≤ length (now heads)) × (bodyArea ≤ length (now bodies))
+        × (length (now text) ≤ textBytes) ⌝ }
+    ensures { λ r. ⌜ record {
+      answer = record { number = r .number; line = r .line; names = r .names; rules = r .rules };
+      areas = record { spellings = now (spellings .exit); heads = now (heads .exit); bodies = now (bodies .exit) };
+    } ≡ outcome (bookOf folded (now (text .entry)))
+        (record { spellings = now (spellings .entry); heads = now (heads .entry); bodies = now (bodies .entry) }) ⌝ }
+{
+    let table = folding();
+    reader::read_formed(text, &table, spellings, heads, bodies)
 }
 
 // Reads the text, standardises its rules, folds the rows, makes the rounds and lists the names held. Rows that the book leaves unused are
@@ -104,13 +136,36 @@ pub fn solve_in(
     model: &mut [u64],
     listing: &mut [u8],
     fresh: bool,
-) -> Answer
+) -> Solved
     requires { ⌜ (fresh ≡ true → Clear rowArea (now all) × Clear rowArea (now any) × Clear rowArea (now spare)) ⌝ }
-    ensures { λ r. ⌜ record {
-      answer = record { number = r .number; line = r .line; names = r .names; atoms = r .atoms; held = r .held; rounds = r .rounds; c = r .c; h = r .h };
-      areas = record { tables = record { spellings = now (spellings .exit); heads = now (heads .exit); bodies = now (bodies .exit) }; all = now (all .exit); any = now (any .exit); spare = now (spare .exit); model = now (model .exit); listing = now (listing .exit) };
-    }
-        ≡ solveCall folded (now (text .entry)) folds (record { tables = record { spellings = now (spellings .entry); heads = now (heads .entry); bodies = now (bodies .entry) }; all = now (all .entry); any = now (any .entry); spare = now (spare .entry); model = now (model .entry); listing = now (listing .entry) }) ⌝ }
+    ensures solved { λ r. ⌜ record {
+      answer = record {
+        number = r .answer .number;
+        line = r .answer .line;
+        names = r .answer .names;
+        atoms = r .answer .atoms;
+        held = r .answer .held;
+        rounds = r .answer .rounds;
+        c = r .answer .c;
+        h = r .answer .h;
+      };
+      areas = record {
+        tables = record { spellings = now (spellings .exit); heads = now (heads .exit); bodies = now (bodies .exit) };
+        all = now (all .exit);
+        any = now (any .exit);
+        spare = now (spare .exit);
+        model = now (model .exit);
+        listing = now (listing .exit);
+      };
+    } ≡ solveCall folded (now (text .entry)) folds (record {
+      tables = record { spellings = now (spellings .entry); heads = now (heads .entry); bodies = now (bodies .entry) };
+      all = now (all .entry);
+      any = now (any .entry);
+      spare = now (spare .entry);
+      model = now (model .entry);
+      listing = now (listing .entry);
+    }) ⌝ }
+    ensures end { λ r. ⌜ r .end ≡ listedEnd (r .answer .number) (bookOf folded (now (text .entry))) folds ⌝ }
 {
     let short = too_short(
         spellings.len(),
@@ -126,37 +181,39 @@ pub fn solve_in(
     if number != 0 {
         return refused(number, 0);
     }
-    let read = reader::read(text, spellings, heads, bodies);
-    if read.number != 0 {
-        return refused(read.number, read.line);
+    let book = read(text, spellings, heads, bodies);
+    if book.number != 0 {
+        return refused(book.number, book.line);
     }
-    // A book that was read leaves tables that are in order, and their rows stay so when they are folded: no stage judges them again.
-    let standardised = standard::standardise_formed(
+    let made = run::run_tables(
         heads,
         bodies,
-        read.names,
-        read.rules,
+        book.names,
+        book.rules,
+        folds,
         all,
         any,
+        spare,
         model,
         fresh,
     );
-    if standardised.number != 0 {
-        return refused(standardised.number, 0);
+    if made.number != 0 {
+        return refused(made.number, 0);
     }
-    unfold::fold_formed(all, spare, standardised.atoms, folds, fresh);
-    // The rounds refuse no rows that standardising left, so their number is not looked at.
-    let run = rounds::run_formed(all, any, model, standardised.atoms);
-    let held = listing::write(spellings, read.names, model, folds, run.rounds, listing);
-    Answer {
+    let listed = listing::write(spellings, book.names, model, folds, made.rounds, listing);
+    let answer = Answer {
         number: 0,
         line: 0,
-        names: read.names,
-        atoms: standardised.atoms,
-        held,
-        rounds: run.rounds,
-        c: standardised.c,
-        h: standardised.h,
+        names: book.names,
+        atoms: made.atoms,
+        held: listed.held,
+        rounds: made.rounds,
+        c: made.c,
+        h: made.h,
+    };
+    Solved {
+        answer,
+        end: listed.end,
     }
 }
 
@@ -174,12 +231,34 @@ pub fn solve(
     listing: &mut [u8],
 ) -> Answer
     ensures { λ r. ⌜ record {
-      answer = record { number = r .number; line = r .line; names = r .names; atoms = r .atoms; held = r .held; rounds = r .rounds; c = r .c; h = r .h };
-      areas = record { tables = record { spellings = now (spellings .exit); heads = now (heads .exit); bodies = now (bodies .exit) }; all = now (all .exit); any = now (any .exit); spare = now (spare .exit); model = now (model .exit); listing = now (listing .exit) };
-    }
-        ≡ solveCall folded (now (text .entry)) folds (record { tables = record { spellings = now (spellings .entry); heads = now (heads .entry); bodies = now (bodies .entry) }; all = now (all .entry); any = now (any .entry); spare = now (spare .entry); model = now (model .entry); listing = now (listing .entry) }) ⌝ }
+      answer = record {
+        number = r .number;
+        line = r .line;
+        names = r .names;
+        atoms = r .atoms;
+        held = r .held;
+        rounds = r .rounds;
+        c = r .c;
+        h = r .h;
+      };
+      areas = record {
+        tables = record { spellings = now (spellings .exit); heads = now (heads .exit); bodies = now (bodies .exit) };
+        all = now (all .exit);
+        any = now (any .exit);
+        spare = now (spare .exit);
+        model = now (model .exit);
+        listing = now (listing .exit);
+      };
+    } ≡ solveCall folded (now (text .entry)) folds (record {
+      tables = record { spellings = now (spellings .entry); heads = now (heads .entry); bodies = now (bodies .entry) };
+      all = now (all .entry);
+      any = now (any .entry);
+      spare = now (spare .entry);
+      model = now (model .entry);
+      listing = now (listing .entry);
+    }) ⌝ }
 {
-    solve_in(
+    let solved = solve_in(
         text,
         folds,
         spellings,
@@ -191,5 +270,7 @@ pub fn solve(
         model,
         listing,
         false,
-    )
+    );
+    let answer = solved.answer;
+    answer
 }

@@ -3,12 +3,15 @@
 use mathlib.Core.Path.{_≡_, refl, sym, ap, _∙_, subst}
 use mathlib.Core.Bool.{Bool, true, false, _||_}
 use mathlib.Core.List.{List, [], _++_}
+use mathlib.Core.Logic.{_↔_, inl, inr}
 use Prim.Native.Nat.{ℕ, _-_, _≤_, _<_}
 use native.Mathlib.Omega.{arith}
 use lib.Dec.{ltb}
 use lib.ListN.{length, getD, drop, replicate}
 use borrow.Author.Tests.{ltb-true, ltb-false, lt-ltb, le-ltb, le-leb}
 use Rattle.limits.specs.Book.{textBytes, names, atoms, folds, rowWords, nameArea, rowArea, listingBytes}
+use Rattle.limits.specs.Cause.{OneOf, lineCauses, textCauses, solveKeptCauses, solveCauses}
+use Rattle.limits.proofs.Causes.{without, other, one-found, inside, one-inside, apart, one-apart}
 use Rattle.sets.specs.Set.{pick}
 use Rattle.sets.proofs.Logic.{either, clash, or-none, and-make, holds, fails, pick-true, pick-false}
 use Rattle.program.specs.Standard.{standard}
@@ -17,7 +20,8 @@ use Rattle.grammar.specs.Grammar.{Clause}
 use Rattle.tables.specs.Numbering.{namesOf, programOf}
 use Rattle.tables.specs.Reading.{Reading, read, refused, bookOf, reading, Fits, Book, Refusal}
 use Rattle.tables.specs.Areas.{Areas, Outcome, short, nameRows, filledWith, tablesOf, refusal, outcome, readCall, nameAt, lookUp}
-use Rattle.tables.proofs.Calls.{refusal-range}
+use Rattle.tables.specs.Claims.{zeroed}
+use Rattle.tables.proofs.Calls.{refusal-cause, Placed, refusal-placed, leaves-refusal}
 use Rattle.tables.proofs.Judging.{reading-short}
 use Rattle.tables.proofs.Loop.{read-refused, refused-number, refused-line}
 use Rattle.tables.proofs.Encoding.{AllFine, length-nameRows, length-filled, filled-is, name-at, long-enough, not-short}
@@ -142,11 +146,24 @@ kept-tables : (q : ℕ) (o : Areas) → refusal q 0 o .areas ≡ o
 unfolding refusal pick
 kept-tables q o = refl
 
--- a refusal under the number j, of tables that the reader leaves
-left-tables : (q j line : ℕ) (left : Areas) (old : SolveAreas) → left ≡ refusal q line (old .tables) .areas → q ≡ j
-    → solveRefusal q line left old ≡ solveRefusal j line (refusal j line (old .tables) .areas) old
-left-tables q j line left old e f =
-    ap (λ (o : Areas). solveRefusal q line o old) e ∙ ap (λ (n : ℕ). solveRefusal n line (refusal n line (old .tables) .areas) old) f
+-- a refusal of the reader: what is left, and whether it has a line
+module _ (a b : ℕ) (old : SolveAreas) where
+  refused-kept : Placed a b → OneOf a solveKeptCauses
+      → solveRefusal a b (refusal a b (old .tables) .areas) old ≡ solveRefusal a 0 (old .tables) old
+  unfolding apart without
+  refused-kept (inl (z, m)) i =
+      ap (λ (n : ℕ). solveRefusal a n (refusal a n (old .tables) .areas) old) z
+      ∙ ap (λ (o : Areas). solveRefusal a 0 o old) (kept-tables a (old .tables))
+  refused-kept (inr (some, m)) i = absurd (one-apart a solveKeptCauses lineCauses refl i m)
+
+  refused-cleared : Placed a b → OneOf a lineCauses
+      → solveRefusal a b (refusal a b (old .tables) .areas) old ≡ solveRefusal a b (zeroed (old .tables)) old
+  unfolding refusal
+  refused-cleared p i = ap (λ (x : Outcome). solveRefusal a b (x .areas) old) (leaves-refusal (old .tables) a b p .cleared i)
+
+  refused-lined : Placed a b → (b ≡ 0 → ⊥) ↔ OneOf a lineCauses
+  unfolding refusal
+  refused-lined p = leaves-refusal (old .tables) a b p .lined
 
 module _ (fold : ℕ → ℕ) (folding : Folding fold) (t : Bytes) (k : ℕ) (old : SolveAreas) where
   -- what is claimed of an outcome
@@ -164,54 +181,60 @@ module _ (fold : ℕ → ℕ) (folding : Folding fold) (t : Bytes) (k : ℕ) (ol
 
   -- an area too short
   way-short : (SolveLong old → ⊥) → Judges (solveRefusal 1 0 (old .tables) old)
+  unfolding without
   way-short h = record {
     accepts = fails (λ z. omega arith) (λ p. h (p .0 .0));
     short = holds refl h;
     long-text = fails (λ z. omega arith) (λ p. h (p .0));
     over-folds = fails (λ z. omega arith) (λ p. h (p .0));
-    text = λ q line low high. fails (λ z. omega (arith, z .0)) (λ p. h (p .0 .0));
+    text = λ q line m. fails (λ z. other 1 q textCauses refl m (sym (z .0))) (λ p. h (p .0 .0));
     over-atoms = fails (λ z. omega arith) (λ p. h (p .0 .0));
-    no-other = omega arith;
+    no-other = inr (one-found 1 1 solveCauses refl refl);
+    lined = fails (λ z. z refl) (λ m. other 1 1 lineCauses refl m refl);
     solved = λ cs b z. absurd (omega arith);
+    kept = λ m. refl;
+    cleared = λ m. absurd (other 1 1 lineCauses refl m refl);
     left-8 = λ cs b z. absurd (omega arith);
-    left = λ q z n m. left-tables 1 q 0 (old .tables) old (sym (kept-tables 1 (old .tables))) z;
-    kept = λ h. refl;
     as-read = λ range. absurd (h (range .0));
   }
 
   module _ (long : SolveLong old) where
     -- a text too long
     way-long : textBytes < length t → Judges (solveRefusal 2 0 (old .tables) old)
+    unfolding without
     way-long l = record {
       accepts = fails (λ z. omega arith) (λ p. omega (arith, p .0 .1));
       short = fails (λ z. omega arith) (λ h. h long);
       long-text = holds refl (long, l);
       over-folds = fails (λ z. omega arith) (λ p. omega (arith, p .1));
-      text = λ q line low high. fails (λ z. omega (arith, z .0)) (λ p. omega (arith, p .0 .1));
+      text = λ q line m. fails (λ z. other 2 q textCauses refl m (sym (z .0))) (λ p. omega (arith, p .0 .1));
       over-atoms = fails (λ z. omega arith) (λ p. omega (arith, p .0 .1));
-      no-other = omega arith;
+      no-other = inr (one-found 2 2 solveCauses refl refl);
+      lined = fails (λ z. z refl) (λ m. other 2 2 lineCauses refl m refl);
       solved = λ cs b z. absurd (omega arith);
+      kept = λ m. refl;
+      cleared = λ m. absurd (other 2 2 lineCauses refl m refl);
       left-8 = λ cs b z. absurd (omega arith);
-      left = λ q z n m. left-tables 2 q 0 (old .tables) old (sym (kept-tables 2 (old .tables))) z;
-      kept = λ h. refl;
       as-read = λ range. absurd (omega (arith, range .1));
     }
 
     module _ (fits : length t ≤ textBytes) where
       -- folds over 8
       way-folds : folds < k → Judges (solveRefusal 9 0 (old .tables) old)
+      unfolding without
       way-folds l = record {
         accepts = fails (λ z. omega arith) (λ p. omega (arith, p .0 .2));
         short = fails (λ z. omega arith) (λ h. h long);
         long-text = fails (λ z. omega arith) (λ p. omega (arith, p .1));
         over-folds = holds refl (long, fits, l);
-        text = λ q line low high. fails (λ z. omega (arith, z .0)) (λ p. omega (arith, p .0 .2));
+        text = λ q line m. fails (λ z. other 9 q textCauses refl m (sym (z .0))) (λ p. omega (arith, p .0 .2));
         over-atoms = fails (λ z. omega arith) (λ p. omega (arith, p .0 .2));
-        no-other = omega arith;
+        no-other = inr (one-found 9 9 solveCauses refl refl);
+        lined = fails (λ z. z refl) (λ m. other 9 9 lineCauses refl m refl);
         solved = λ cs b z. absurd (omega arith);
+        kept = λ m. refl;
+        cleared = λ m. absurd (other 9 9 lineCauses refl m refl);
         left-8 = λ cs b z. absurd (omega arith);
-        left = λ q z n m. left-tables 9 q 0 (old .tables) old (sym (kept-tables 9 (old .tables))) z;
-        kept = λ h. refl;
         as-read = λ range. absurd (omega (arith, range .2));
       }
 
@@ -227,26 +250,28 @@ module _ (fold : ℕ → ℕ) (folding : Folding fold) (t : Bytes) (k : ℕ) (ol
 
           -- it has that refusal alone
           way-refused : Judges (solveRefusal a b (refusal a b (old .tables) .areas) old)
-          unfolding outcome
+          unfolding outcome without inside
           way-refused =
-              let r : (3 ≤ a) × (a ≤ 7) = refusal-range fold t a b (judged fold folding .refuses t a b .0 e) in
+              let m : OneOf a textCauses = refusal-cause fold t a b (judged fold folding .refuses t a b .0 e) in
+              let placed : Placed a b = refusal-placed fold t a b (judged fold folding .refuses t a b .0 e) in
               record {
-                accepts = fails (λ z. omega (arith, r .0)) (λ p. no-book (p .1 .0) (p .1 .1));
-                short = fails (λ z. omega (arith, r .0)) (λ h. h long);
-                long-text = fails (λ z. omega (arith, r .0)) (λ p. omega (arith, p .1));
-                over-folds = fails (λ z. omega (arith, r .1)) (λ p. omega (arith, p .2));
-                text = λ q line low high. (
+                accepts = fails (other 0 a textCauses refl m) (λ p. no-book (p .1 .0) (p .1 .1));
+                short = fails (other 1 a textCauses refl m) (λ h. h long);
+                long-text = fails (other 2 a textCauses refl m) (λ p. omega (arith, p .1));
+                over-folds = fails (other 9 a textCauses refl m) (λ p. omega (arith, p .2));
+                text = λ q line n. (
                   λ z. (range, judged fold folding .refuses t q line .0 (e ∙ ap (λ (n : ℕ). refused n b) (z .0) ∙ ap (refused q) (z .1))),
                   λ p.
                       let same : refused a b ≡ refused q line = sym e ∙ judged fold folding .refuses t q line .1 (p .1) in
                       (refused-number a b q line same, refused-line a b q line same),
                 );
-                over-atoms = fails (λ z. omega (arith, r .1)) (λ p. no-book (p .1 .0) (p .1 .1));
-                no-other = omega (arith, r .1);
+                over-atoms = fails (other 8 a textCauses refl m) (λ p. no-book (p .1 .0) (p .1 .1));
+                no-other = inr (one-inside a textCauses solveCauses refl m);
+                lined = refused-lined a b old placed;
                 solved = λ cs x z. no-book cs x;
+                kept = refused-kept a b old placed;
+                cleared = refused-cleared a b old placed;
                 left-8 = λ cs x z. no-book cs x;
-                left = λ q z n m. left-tables a q b (refusal a b (old .tables) .areas) old refl z;
-                kept = λ h. absurd (h range);
                 as-read = λ p. ap (λ (o : Outcome). o .areas) (sym (reader-leaves range (refused a b) e));
               }
 
@@ -268,37 +293,39 @@ module _ (fold : ℕ → ℕ) (folding : Folding fold) (t : Bytes) (k : ℕ) (ol
 
           -- over 256 atoms
           way-over : atoms < standard (programOf cs) .atoms → Judges (solveRefusal 8 0 (tablesOf cs (old .tables)) old)
-          unfolding outcome
+          unfolding outcome without
           way-over l = record {
             accepts = fails (λ z. omega arith) (λ p. omega (arith, p .1 .2, same-atoms (p .1 .0) (p .1 .1)));
             short = fails (λ z. omega arith) (λ h. h long);
             long-text = fails (λ z. omega arith) (λ p. omega (arith, p .1));
             over-folds = fails (λ z. omega arith) (λ p. omega (arith, p .2));
-            text = λ q line low high. fails (λ z. omega (arith, z .0)) (λ p. no-refusal q line (p .1));
+            text = λ q line m. fails (λ z. other 8 q textCauses refl m (sym (z .0))) (λ p. no-refusal q line (p .1));
             over-atoms = holds refl (range, (cs, book, l));
-            no-other = omega arith;
+            no-other = inr (one-found 8 8 solveCauses refl refl);
+            lined = fails (λ z. z refl) (λ m. other 8 8 lineCauses refl m refl);
             solved = λ ds d z. absurd (omega arith);
+            kept = λ m. absurd (other 8 8 solveKeptCauses refl m refl);
+            cleared = λ m. absurd (other 8 8 lineCauses refl m refl);
             left-8 = λ ds d z. ap (λ (xs : List Clause). solveRefusal 8 0 (tablesOf xs (old .tables)) old) (as-cs ds d);
-            left = λ q z n m. absurd (m (sym z));
-            kept = λ h. absurd (h range);
             as-read = λ p. ap (λ (o : Outcome). o .areas) (sym (reader-leaves range (read cs) e));
           }
 
           -- and no more
           way-solved : standard (programOf cs) .atoms ≤ atoms → Judges (record { answer = answerOf (programOf cs) k; areas = solvedAreas cs k old })
-          unfolding outcome answerOf solvedAreas
+          unfolding outcome answerOf solvedAreas without
           way-solved l = record {
             accepts = holds refl (range, (cs, book, l));
             short = fails (λ z. omega arith) (λ h. h long);
             long-text = fails (λ z. omega arith) (λ p. omega (arith, p .1));
             over-folds = fails (λ z. omega arith) (λ p. omega (arith, p .2));
-            text = λ q line low high. fails (λ z. omega (arith, z .0)) (λ p. no-refusal q line (p .1));
+            text = λ q line m. fails (λ z. other 0 q textCauses refl m (sym (z .0))) (λ p. no-refusal q line (p .1));
             over-atoms = fails (λ z. omega arith) (λ p. omega (arith, p .1 .2, same-atoms (p .1 .0) (p .1 .1)));
-            no-other = omega arith;
+            no-other = inl refl;
+            lined = fails (λ z. z refl) (λ m. other 0 0 lineCauses refl m refl);
             solved = λ ds d z. ap (λ (xs : List Clause). record { answer = answerOf (programOf xs) k; areas = solvedAreas xs k old }) (as-cs ds d);
+            kept = λ m. absurd (other 0 0 solveKeptCauses refl m refl);
+            cleared = λ m. absurd (other 0 0 lineCauses refl m refl);
             left-8 = λ ds d z. absurd (omega arith);
-            left = λ q z n m. absurd (n (sym z));
-            kept = λ h. absurd (h range);
             as-read = λ p. ap (λ (o : Outcome). o .areas) (sym (reader-leaves range (read cs) e));
           }
 

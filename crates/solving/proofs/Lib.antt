@@ -1,6 +1,7 @@
 pub mod Staged
 pub mod Judging
 pub mod Past
+pub mod Sizes
 pub mod Rounds
 pub mod Models
 pub mod Holds

@@ -1,14 +1,13 @@
 -- What lies past the stated sizes: the solver leaves it as it was, on acceptance and on every refusal.
 -- Assumes nothing.
 use mathlib.Core.Path.{_≡_, refl, sym, subst}
+use mathlib.Core.Logic.{⊎-elim}
 use mathlib.Core.List.{List, [], map}
 use Prim.Native.Nat.{ℕ, _+_, _≤_}
 use native.Mathlib.Omega.{arith}
-use lib.Dec.{eqb}
 use lib.ListN.{length, drop, length-map}
-use borrow.Author.Tests.{eqb-true, eqb-false}
 use Rattle.limits.specs.Book.{rules, atoms, folds, rowWords, nameArea, bodyArea, rowArea, listingBytes}
-use Rattle.sets.proofs.Logic.{either, pick-true, pick-false}
+use Rattle.limits.proofs.Causes.{solve-left}
 use Rattle.sets.proofs.Running.{rounds-few}
 use Rattle.program.specs.Program.{Rule}
 use Rattle.program.specs.System.{System, round, folded, roundsOf, heldBy}
@@ -19,7 +18,9 @@ use Rattle.grammar.specs.Bytes.{Bytes, Folding}
 use Rattle.grammar.specs.Grammar.{Clause, joined}
 use Rattle.tables.specs.Numbering.{namesOf, numbered, programOf}
 use Rattle.tables.specs.Reading.{Fits, Book}
-use Rattle.tables.specs.Areas.{Areas, nameRows, headRows, bodyRows, filledWith, tablesOf, refusal}
+use Rattle.tables.specs.Areas.{Areas, nameRows, headRows, bodyRows, filledWith, tablesOf}
+use Rattle.tables.specs.Claims.{zeroed}
+use Rattle.tables.proofs.Calls.{cleared-zero}
 use Rattle.tables.proofs.Encoding.{AllFit, length-nameRows, drop-filled}
 use Rattle.tables.proofs.Numbering.{numbers, heads-length, bodies-length}
 use Rattle.tables.proofs.Theorems.{judged, read-fine}
@@ -56,14 +57,11 @@ tables-past cs old fits short =
     filled-past (namesOf cs) rs old (omega (arith, length-nameRows (namesOf cs) short, fits .names-fit))
     (omega (arith, length-map cs (numbered (namesOf cs)), fits .rules-fit))
 
--- after a refusal of the reader
-refusal-past : (q line : ℕ) (old : Areas) → TablesPast old (refusal q line old .areas)
-unfolding refusal
-refusal-past q line old =
+-- after a refusal of a line
+zeroed-past : (old : Areas) → TablesPast old (zeroed old)
+zeroed-past old =
     let none : length (nameRows []) ≤ nameArea = unfold nameRows in omega arith in
-    either (eqb line 0)
-    (λ e. subst (TablesPast old) (sym (pick-true old (filledWith [] [] old) e)) (refl, refl, refl))
-    (λ e. subst (TablesPast old) (sym (pick-false old (filledWith [] [] old) e)) (filled-past [] [] old none (omega arith)))
+    subst (TablesPast old) (cleared-zero old) (filled-past [] [] old none (omega arith))
 
 -- a refusal leaves all areas but the tables as they were
 refused-past : (q line : ℕ) (left : Areas) (old : SolveAreas) → TablesPast (old .tables) left
@@ -118,19 +116,17 @@ solve-past fold folding t k old =
     let fit : (cs : List Clause) → Book fold t cs → AllFit (namesOf cs) =
     λ cs b a l. read-fine fold folding t cs (judged fold folding .accepted t cs .1 b) a l .0
     in
-    either (eqb n 0)
-    (λ e.
-    let s : Solved fold t k old = solved-of fold folding t k old (eqb-true n 0 e) in
+    ⊎-elim
+    (λ z.
+    let s : Solved fold t k old = solved-of fold folding t k old z in
     subst P (sym (s .is)) (solved-past (s .cs) k old (s .fits) (fit (s .cs) (s .book)) (s .range .2) (s .few)))
-    (λ e.
-    either (eqb n 8)
-    (λ f.
-    let z : n ≡ 8 = eqb-true n 8 f in
+    (λ m.
+    solve-left n m
+    (λ i. subst P (sym (j .kept i)) (refused-past n 0 (old .tables) old (refl, refl, refl)))
+    (λ i. subst P (sym (j .cleared i)) (refused-past n (r .answer .line) (zeroed (old .tables)) old (zeroed-past (old .tables))))
+    (λ z.
     let cs : List Clause = j .over-atoms .0 z .1 .0 in
     let b : Book fold t cs = j .over-atoms .0 z .1 .1 in
     subst P (sym (j .left-8 cs b z))
-    (refused-past 8 0 (tablesOf cs (old .tables)) old (tables-past cs (old .tables) (b .fits) (fit cs b))))
-    (λ f.
-    let line : ℕ = r .answer .line in
-    subst P (sym (j .left n refl (eqb-false n 0 e) (eqb-false n 8 f)))
-    (refused-past n line (refusal n line (old .tables) .areas) old (refusal-past n line (old .tables)))))
+    (refused-past 8 0 (tablesOf cs (old .tables)) old (tables-past cs (old .tables) (b .fits) (fit cs b)))))
+    (j .no-other)

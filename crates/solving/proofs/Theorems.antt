@@ -6,6 +6,7 @@ use Rattle.grammar.proofs.Folding.{folding as ours}
 use Rattle.solving.specs.Claims.{Demands}
 use Rattle.solving.proofs.Judging as Judging
 use Rattle.solving.proofs.Past as Past
+use Rattle.solving.proofs.Sizes as Sizes
 use Rattle.solving.proofs.Holds as Holds
 use Rattle.solving.proofs.Decimal as Decimal
 use Rattle.solving.proofs.Lists as Lists
@@ -16,6 +17,7 @@ pub demands : (fold : ℕ → ℕ) → Folding fold → Demands fold
 demands fold folding = record {
   judges = Judging.solve-judges fold folding;
   untouched = Past.solve-past fold folding;
+  sizes = Sizes.solve-sizes fold;
   holds = Holds.solve-holds fold folding;
   decimals = Decimal.decimals;
   lists = Lists.solve-lists fold folding;

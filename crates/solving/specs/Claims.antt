@@ -18,6 +18,7 @@ use Rattle.solving.specs.Solve.{SolveAreas, solveCall}
 use Rattle.solving.specs.Held.{HeldIn, Held}
 use Rattle.solving.specs.PlainClaims.{PlainCalls, PlainHolds}
 use Rattle.solving.specs.SolveClaims.{SolveJudges, SolvePast, SolveHolds, SolveRounds}
+use Rattle.solving.specs.Sizes.{SolveSizes}
 use Rattle.solving.specs.ListingClaims.{Decimal, Lists}
 
 -- All of demands 1 and 3, for every text, fold number and old contents of the areas.
@@ -25,6 +26,7 @@ pub record Demands (fold : ℕ → ℕ) : Type 0 where
   pub decimals : (n : ℕ) → Decimal n (decimal n)
   pub judges : (t : Bytes) (k : ℕ) (old : SolveAreas) → SolveJudges fold t k old (solveCall fold t k old)
   pub untouched : (t : Bytes) (k : ℕ) (old : SolveAreas) → SolvePast old (solveCall fold t k old .areas)
+  pub sizes : SolveSizes fold
   pub holds : (t : Bytes) (k : ℕ) (old : SolveAreas) → solveCall fold t k old .answer .number ≡ 0
       → SolveHolds fold t (solveCall fold t k old)
   pub lists : (t : Bytes) (k : ℕ) (old : SolveAreas) → solveCall fold t k old .answer .number ≡ 0

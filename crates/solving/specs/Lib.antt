@@ -7,4 +7,5 @@ pub mod Held
 pub mod PlainClaims
 pub mod ListingClaims
 pub mod SolveClaims
+pub mod Sizes
 pub mod Claims

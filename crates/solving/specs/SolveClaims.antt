@@ -2,12 +2,13 @@
 -- "Accepted" is: the number is 0.
 -- Assumes nothing.
 use mathlib.Core.Path.{_≡_}
-use mathlib.Core.Logic.{_↔_}
+use mathlib.Core.Logic.{_⊎_, _↔_}
 use mathlib.Core.Bool.{true, false}
 use mathlib.Core.List.{List}
 use Prim.Native.Nat.{ℕ, suc, _+_, _*_, _^_, _≤_, _<_}
 use lib.ListN.{length, drop}
 use Rattle.limits.specs.Book.{textBytes, rules, atoms, atoms as limit, folds, rowWords, nameArea, bodyArea, rowArea, listingBytes}
+use Rattle.limits.specs.Cause.{OneOf, lineCauses, textCauses, solveKeptCauses, solveCauses}
 use Rattle.sets.specs.Set.{count}
 use Rattle.sets.specs.Steps.{First}
 use Rattle.program.specs.System.{round, folded, roundsOf, heldBy}
@@ -17,7 +18,8 @@ use Rattle.grammar.specs.Bytes.{Bytes}
 use Rattle.grammar.specs.Grammar.{Clause}
 use Rattle.tables.specs.Numbering.{namesOf, programOf}
 use Rattle.tables.specs.Reading.{Book, Refusal}
-use Rattle.tables.specs.Areas.{tablesOf, refusal, readCall}
+use Rattle.tables.specs.Areas.{tablesOf, readCall}
+use Rattle.tables.specs.Claims.{zeroed}
 use Rattle.systems.specs.Rows.{rowIn}
 use Rattle.systems.specs.Rounds.{modelIn}
 use Rattle.solving.specs.Solve.{SolveAreas, SolveOutcome, solveRefusal, answerOf, solvedAreas}
@@ -41,10 +43,6 @@ pub record SolveLong (o : SolveAreas) : Type 0 where
 abbrev pub InRange : Bytes → ℕ → SolveAreas → Type 0
 InRange t k old = SolveLong old × (length t ≤ textBytes) × (k ≤ folds)
 
--- the highest number of a refusal that the solver gives: 10, 11 and 12 cannot occur
-abbrev pub highestRefusal : ℕ
-highestRefusal = 9
-
 -- each number exactly where document 01 gives it, and what is left then: r is what the call returns and leaves
 pub record SolveJudges (fold : ℕ → ℕ) (t : Bytes) (k : ℕ) (old : SolveAreas) (r : SolveOutcome) : Type 0 where
   pub accepts : (r .answer .number ≡ 0)
@@ -52,20 +50,25 @@ pub record SolveJudges (fold : ℕ → ℕ) (t : Bytes) (k : ℕ) (old : SolveAr
   pub short : (r .answer .number ≡ 1) ↔ (SolveLong old → ⊥)
   pub long-text : (r .answer .number ≡ 2) ↔ (SolveLong old × (textBytes < length t))
   pub over-folds : (r .answer .number ≡ 9) ↔ (SolveLong old × (length t ≤ textBytes) × (folds < k))
-  -- 3 to 7 with their line, as the grammar says
-  pub text : (q line : ℕ) → 3 ≤ q → q ≤ 7 → ((r .answer .number ≡ q) × (r .answer .line ≡ line)) ↔ (InRange t k old × Refusal fold t q line)
+  -- those of a text with their line, as the grammar says
+  pub text : (q line : ℕ) → OneOf q textCauses
+      → ((r .answer .number ≡ q) × (r .answer .line ≡ line)) ↔ (InRange t k old × Refusal fold t q line)
   pub over-atoms : (r .answer .number ≡ 8)
       ↔ (InRange t k old × ((cs : List Clause) × Book fold t cs × (atoms < standard (programOf cs) .atoms)))
-  -- no other number
-  pub no-other : r .answer .number ≤ highestRefusal
-  -- what is returned and left: on acceptance, on refusal 8, and on the others
+  -- 0 and these are all its numbers: 10, 11 and 12 cannot occur
+  pub no-other : (r .answer .number ≡ 0) ⊎ OneOf (r .answer .number) solveCauses
+  -- a line comes with exactly these
+  pub lined : (r .answer .line ≡ 0 → ⊥) ↔ OneOf (r .answer .number) lineCauses
+  -- what is returned and left, on acceptance
   pub solved : (cs : List Clause) → Book fold t cs → r .answer .number ≡ 0
       → r ≡ record { answer = answerOf (programOf cs) k; areas = solvedAreas cs k old }
+  -- "number, zeros", "all as it was"
+  pub kept : OneOf (r .answer .number) solveKeptCauses → r ≡ solveRefusal (r .answer .number) 0 (old .tables) old
+  -- "number, line", "names, rules zero; others as they were"
+  pub cleared : OneOf (r .answer .number) lineCauses
+      → r ≡ solveRefusal (r .answer .number) (r .answer .line) (zeroed (old .tables)) old
+  -- "number, zeros", "names, rules as read; others as they were"
   pub left-8 : (cs : List Clause) → Book fold t cs → r .answer .number ≡ 8 → r ≡ solveRefusal 8 0 (tablesOf cs (old .tables)) old
-  pub left : (q : ℕ) → r .answer .number ≡ q → (q ≡ 0 → ⊥) → (q ≡ 8 → ⊥)
-      → r ≡ solveRefusal q (r .answer .line) (refusal q (r .answer .line) (old .tables) .areas) old
-  -- 1, 2 and 9 have no line, and all is as it was
-  pub kept : (InRange t k old → ⊥) → r ≡ solveRefusal (r .answer .number) 0 (old .tables) old
   -- names and rules are as the reader leaves them, whenever it is reached
   pub as-read : InRange t k old → r .areas .tables ≡ readCall fold t (old .tables) .areas
 

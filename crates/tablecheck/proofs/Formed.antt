@@ -1,10 +1,10 @@
 -- Tables in order: each test that fails settles it, and past all of them the numbering decides.
 -- Assumes nothing.
 use mathlib.Core.Path.{_≡_, sym, ap, _∙_}
-use mathlib.Core.Bool.{Bool, true, false, _&&_}
+use mathlib.Core.Bool.{Bool, true, false, not, _&&_}
 use Prim.Native.Nat.{ℕ, _*_, _≤_, _<_}
 use lib.Dec.{eqb, leb}
-use borrow.Author.Tests.{le-leb, lt-leb, leb-true}
+use borrow.Author.Tests.{le-leb, lt-leb, leb-true, not-true as made-false, not-false as made-true}
 use Rattle.limits.specs.Book.{names, nameBytes, rules, bodyWords, nameArea, bodyArea}
 use Rattle.sets.specs.Set.{every}
 use Rattle.sets.proofs.Logic.{and-left, and-right, not-true, clash}
@@ -12,6 +12,14 @@ use Rattle.tables.specs.Areas.{Areas, rulesIn, rulesOnly}
 use Rattle.tables.specs.Writing.{zeroFrom, goodName, different, numbersIn, orderly, metIn, wellFormed}
 use Rattle.tablecheck.specs.Order.{ordered}
 use Rattle.tablecheck.proofs.Meeting.{rules-only}
+
+-- a test r of t that is passed over
+pub passed : {r t : Bool} → r ≡ t → not r ≡ false → t ≡ true
+passed {r} e f = sym e ∙ made-true r f
+
+-- and one that fails
+pub failed : {r t : Bool} → r ≡ t → not r ≡ true → t ≡ false
+failed {r} e f = sym e ∙ made-false r f
 
 -- eight tests, bracketed as in wellFormed: one that fails settles them all
 module _ (a b c d e f g h : Bool) where

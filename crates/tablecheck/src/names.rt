@@ -10,7 +10,7 @@ ghost use Rattle.limits.specs.Book.{names, nameBytes, nameArea};
 ghost use Rattle.sets.specs.Set.{every};
 ghost use Rattle.words.specs.Row.{part};
 ghost use Rattle.scan.specs.Fold.{FoldTable};
-ghost use Rattle.grammar.specs.Bytes.{folded, allOf};
+ghost use Rattle.grammar.specs.Bytes.{letters, allOf};
 ghost use Rattle.tables.specs.Numbering.{sameBytes};
 ghost use Rattle.tables.specs.Areas.{nameAt};
 ghost use Rattle.tables.specs.Writing.{own, goodName, different};
@@ -34,7 +34,7 @@ pub fn name_end(spellings: &[u8], a: usize) -> usize
 // Whether every byte from place `from` up to `to` is a name byte that is its own entry.
 pub fn own_bytes(spellings: &[u8], table: &[u8], from: usize, to: usize) -> bool
     requires { ⌜ (to ≤ length (now spellings)) × FoldTable (now table) ⌝ }
-    ensures { λ r. ⌜ r ≡ allOf (own folded) (part from (to - from) (now (spellings .entry))) ⌝ }
+    ensures { λ r. ⌜ r ≡ allOf (own (letters (now (table .entry)))) (part from (to - from) (now (spellings .entry))) ⌝ }
 {
     let mut i = from;
     while i < to {
@@ -53,7 +53,7 @@ pub fn own_bytes(spellings: &[u8], table: &[u8], from: usize, to: usize) -> bool
 // Whether row a holds a folded name, padded with zeros.
 pub fn good_name(spellings: &[u8], table: &[u8], a: usize) -> bool
     requires { ⌜ (a < names) × (nameArea ≤ length (now spellings)) × FoldTable (now table) ⌝ }
-    ensures { λ r. ⌜ r ≡ goodName folded (now (spellings .entry)) a ⌝ }
+    ensures { λ r. ⌜ r ≡ goodName (letters (now (table .entry))) (now (spellings .entry)) a ⌝ }
 {
     let from = Book::name_at(a);
     let end = name_end(spellings, a);
@@ -68,7 +68,7 @@ pub fn good_name(spellings: &[u8], table: &[u8], a: usize) -> bool
 
 pub fn good_names(spellings: &[u8], table: &[u8], n: usize) -> bool
     requires { ⌜ (n ≤ names) × (nameArea ≤ length (now spellings)) × FoldTable (now table) ⌝ }
-    ensures { λ r. ⌜ r ≡ every n (goodName folded (now (spellings .entry))) ⌝ }
+    ensures { λ r. ⌜ r ≡ every n (goodName (letters (now (table .entry))) (now (spellings .entry))) ⌝ }
 {
     let mut a = 0;
     while a < n {

@@ -1,20 +1,25 @@
 -- The reader's call: what it answers and leaves, by the grammar.
 -- Assumes nothing.
-use mathlib.Core.Path.{_≡_, refl, sym, ap, _∙_}
+use mathlib.Core.Path.{_≡_, refl, sym, ap, _∙_, subst}
 use mathlib.Core.Bool.{true, false}
 use mathlib.Core.Logic.{_⊎_, inl, inr}
-use mathlib.Core.List.{List}
+use mathlib.Core.List.{List, []}
 use Prim.Native.Nat.{ℕ, _≤_}
 use native.Mathlib.Omega.{arith}
 use lib.ListN.{length}
+use borrow.Author.Tests.{ne-eqb}
 use Rattle.limits.specs.Book.{textBytes}
-use Rattle.sets.proofs.Logic.{either, pick-true, pick-false}
+use Rattle.limits.specs.Cause.{OneOf, faultCauses, fullCauses, lineCauses, wholeCauses, textCauses, keptCauses}
+use Rattle.limits.proofs.Causes.{without, other, one-found, apart, one-apart, one-left, one-right}
+use Rattle.sets.specs.Set.{pick}
+use Rattle.sets.proofs.Logic.{either, holds, fails, pick-true, pick-false}
 use Rattle.grammar.specs.Bytes.{Bytes}
 use Rattle.grammar.specs.Grammar.{Clause}
+use Rattle.grammar.proofs.Forms.{fault-cause}
 use Rattle.tables.specs.Numbering.{namesOf}
 use Rattle.tables.specs.Reading.{Reading, read, refused, reading, Book, Barred, Refusal}
-use Rattle.tables.specs.Areas.{Areas, Outcome, short, tablesOf, refusal, outcome, readCall}
-use Rattle.tables.specs.Claims.{Refuses, Reads, ReadCalls, accepted}
+use Rattle.tables.specs.Areas.{Areas, Outcome, filled, nameRows, headRows, bodyRows, filledWith, short, tablesOf, refusal, outcome, readCall}
+use Rattle.tables.specs.Claims.{Refuses, Reads, ReadLeaves, ReadCalls, accepted, refusedWith, zeroed}
 
 -- a refusal's number and line
 refusal-number : (k line : ℕ) (old : Areas) → refusal k line old .answer .number ≡ k
@@ -38,24 +43,89 @@ outcome-refused k line old = refl
 not-one : (k : ℕ) → k ≡ 1 → k ≡ 0 → ⊥
 not-one k a b = omega arith
 
--- a line's number is 5, 6 or 7
-barred-number : (fold : ℕ → ℕ) (cs : List Clause) (s : Bytes) (q : ℕ) → Barred fold cs s q → (3 ≤ q) × (q ≤ 7)
-unfolding Barred
-barred-number fold cs s q (inl x) = (omega (arith, x .0), omega (arith, x .0))
-barred-number fold cs s q (inr (c, says, inl x)) = (omega (arith, x .0), omega (arith, x .0))
-barred-number fold cs s q (inr (c, says, inr x)) = (omega (arith, x .0), omega (arith, x .0))
+-- a line that is refused has one of the causes of a line
+pub barred-cause : (fold : ℕ → ℕ) (cs : List Clause) (s : Bytes) (q : ℕ) → Barred fold cs s q → OneOf q lineCauses
+unfolding Barred without
+barred-cause fold cs s q (inl x) = one-left q faultCauses fullCauses (fault-cause fold s q x)
+barred-cause fold cs s q (inr (c, says, inl x)) = one-found 7 q lineCauses refl (x .0)
+barred-cause fold cs s q (inr (c, says, inr x)) = one-found 6 q lineCauses refl (x .0)
 
--- a text's is from 3 to 7
-pub refusal-range : (fold : ℕ → ℕ) (t : Bytes) (q line : ℕ) → Refusal fold t q line → (3 ≤ q) × (q ≤ 7)
-unfolding Refusal
-refusal-range fold t q line (inl x) = (omega (arith, x .0), omega (arith, x .0))
-refusal-range fold t q line (inr (inl x)) = (omega (arith, x .0), omega (arith, x .0))
-refusal-range fold t q line (inr (inr x)) = barred-number fold (x .cs) (x .here) q (x .barred)
+-- a text that is refused has one of the causes of a text
+pub refusal-cause : (fold : ℕ → ℕ) (t : Bytes) (q line : ℕ) → Refusal fold t q line → OneOf q textCauses
+unfolding Refusal without
+refusal-cause fold t q line (inl x) = one-found 3 q textCauses refl (x .0)
+refusal-cause fold t q line (inr (inl x)) = one-found 4 q textCauses refl (x .0)
+refusal-cause fold t q line (inr (inr x)) = one-right q wholeCauses lineCauses (barred-cause fold (x .cs) (x .here) q (x .barred))
 
--- so a cause is not 0
+-- so its number is not 0
+pub refusal-some : (fold : ℕ → ℕ) (t : Bytes) (q line : ℕ) → Refusal fold t q line → q ≡ 0 → ⊥
+unfolding without
+refusal-some fold t q line x = other 0 q textCauses refl (refusal-cause fold t q line x)
+
+-- nor where the length is judged too
 cause-number : (fold : ℕ → ℕ) (t : Bytes) (k line : ℕ) → Refuses fold t k line → k ≡ 0 → ⊥
 cause-number fold t k line (inl x) e = omega (arith, x .1)
-cause-number fold t k line (inr x) e = omega (arith, refusal-range fold t k line (x .1) .0)
+cause-number fold t k line (inr x) e = refusal-some fold t k line (x .1) e
+
+-- no line and a cause that leaves all as it was, or a line and a cause of a line
+abbrev pub Placed : ℕ → ℕ → Type 0
+Placed k line = ((line ≡ 0) × OneOf k keptCauses) ⊎ ((line ≡ 0 → ⊥) × OneOf k lineCauses)
+
+-- a text is refused so
+pub refusal-placed : (fold : ℕ → ℕ) (t : Bytes) (k line : ℕ) → Refusal fold t k line → Placed k line
+unfolding Refusal without
+refusal-placed fold t k line (inl x) = inl (x .1, one-found 3 k keptCauses refl (x .0))
+refusal-placed fold t k line (inr (inl x)) = inl (x .1, one-found 4 k keptCauses refl (x .0))
+refusal-placed fold t k line (inr (inr x)) = inr (λ z. omega (arith, x .number), barred-cause fold (x .cs) (x .here) k (x .barred))
+
+refuses-placed : (fold : ℕ → ℕ) (t : Bytes) (k line : ℕ) → Refuses fold t k line → Placed k line
+unfolding without
+refuses-placed fold t k line (inl x) = inl (x .2, one-found 2 k keptCauses refl (x .1))
+refuses-placed fold t k line (inr x) = refusal-placed fold t k line (x .1)
+
+-- cleared areas are zero over their stated sizes
+pub cleared-zero : (old : Areas) → filledWith [] [] old ≡ zeroed old
+unfolding filledWith filled nameRows headRows bodyRows
+cleared-zero old = refl
+
+module _ (old : Areas) where
+  -- what is left under a cause that leaves all as it was
+  leaves-kept : (k : ℕ) → OneOf k keptCauses → ReadLeaves old (refusal k 0 old)
+  unfolding refusal pick apart without
+  leaves-kept k m =
+      let no-line : OneOf k lineCauses → ⊥ = one-apart k keptCauses lineCauses refl m in
+      record {
+        no-other = inr (one-left k keptCauses lineCauses m);
+        lined = fails (λ z. z refl) no-line;
+        kept = λ i. refl;
+        cleared = λ i. absurd (no-line i);
+      }
+
+  -- under a cause of a line
+  leaves-cleared : (k line : ℕ) → (line ≡ 0 → ⊥) → OneOf k lineCauses → ReadLeaves old (refusal k line old)
+  unfolding refusal apart without
+  leaves-cleared k line some m =
+      record {
+        no-other = inr (one-right k keptCauses lineCauses m);
+        lined = holds some m;
+        kept = λ i. absurd (one-apart k keptCauses lineCauses refl i m);
+        cleared = λ i. ap (refusedWith k line) (pick-false old (filledWith [] [] old) (ne-eqb line 0 some) ∙ cleared-zero old);
+      }
+
+  pub leaves-refusal : (k line : ℕ) → Placed k line → ReadLeaves old (refusal k line old)
+  leaves-refusal k line (inl (z, m)) = subst (λ (i : ℕ). ReadLeaves old (refusal k i old)) (sym z) (leaves-kept k m)
+  leaves-refusal k line (inr (some, m)) = leaves-cleared k line some m
+
+  -- and where the reader accepts
+  leaves-accepted : (n m : ℕ) (o : Areas) → ReadLeaves old (accepted n m o)
+  unfolding without
+  leaves-accepted n m o =
+      record {
+        no-other = inl refl;
+        lined = fails (λ z. z refl) (λ i. other 0 0 lineCauses refl i refl);
+        kept = λ i. absurd (other 0 0 keptCauses refl i refl);
+        cleared = λ i. absurd (other 0 0 lineCauses refl i refl);
+      }
 
 module _ (fold : ℕ → ℕ) (judge : Reads fold) (t : Bytes) (old : Areas) where
   -- areas too short, and long enough
@@ -110,35 +180,54 @@ module _ (fold : ℕ → ℕ) (judge : Reads fold) (t : Bytes) (old : Areas) whe
       ∙ ap (λ (i : ℕ). accepted i (length cs) (tablesOf cs old)) (sym a) ∙ ap (λ (i : ℕ). accepted n i (tablesOf cs old)) (sym b)
       ∙ ap (λ (x : Areas). accepted n m x) (sym c)
 
+  -- the number and the line of the call
+  Answered : ℕ → ℕ → Type 0
+  Answered k line = (readCall fold t old .answer .number ≡ k) × (readCall fold t old .answer .line ≡ line)
+
+  answered : (k line : ℕ) → readCall fold t old ≡ refusal k line old → Answered k line
+  unfolding Answered
+  answered k line e = (
+    ap (λ (x : Outcome). x .answer .number) e ∙ refusal-number k line old,
+    ap (λ (x : Outcome). x .answer .line) e ∙ refusal-line k line old,
+  )
+
   Refused : ℕ → ℕ → Type 0
   Refused k line = ((short old ≡ true) × (k ≡ 1) × (line ≡ 0)) ⊎ ((short old ≡ false) × Refuses fold t k line)
 
-  by-reading : (k line : ℕ) → (k ≡ 0 → ⊥) → readCall fold t old ≡ refusal k line old → short old ≡ false
-      → (x : Reading) → reading fold t ≡ x → Refuses fold t k line
-  by-reading k line some e l (read cs) q =
-      absurd (some (number-of k line (accepted (length (namesOf cs)) (length cs) (tablesOf cs old)) e (on-read cs l q)))
+  by-reading : (k line : ℕ) → (k ≡ 0 → ⊥) → Answered k line → short old ≡ false → (x : Reading) → reading fold t ≡ x → Refuses fold t k line
+  unfolding Answered
+  by-reading k line some e l (read cs) q = absurd (some (sym (e .0) ∙ ap (λ (x : Outcome). x .answer .number) (on-read cs l q)))
   by-reading k line some e l (refused i j) q =
-      let x : readCall fold t old ≡ refusal i j old = on-refused i j l q in
-      let a : i ≡ k = sym (number-of k line (refusal i j old) e x ∙ refusal-number i j old) in
-      let b : j ≡ line = sym (line-of k line (refusal i j old) e x ∙ refusal-line i j old) in
+      let is : Answered i j = answered i j (on-refused i j l q) in
+      let a : i ≡ k = sym (is .0) ∙ e .0 in
+      let b : j ≡ line = sym (is .1) ∙ e .1 in
       judge .refuses t k line .0 (q ∙ ap (λ (n : ℕ). refused n j) a ∙ ap (λ (n : ℕ). refused k n) b)
 
-  to-cause : (k line : ℕ) → (k ≡ 0 → ⊥) → readCall fold t old ≡ refusal k line old → Refused k line
-  unfolding Refused
+  to-cause : (k line : ℕ) → (k ≡ 0 → ⊥) → Answered k line → Refused k line
+  unfolding Refused Answered
   to-cause k line some e =
       either (short old)
-      (λ s. inl (
-        s,
-        number-of k line (refusal 1 0 old) e (on-short s) ∙ refusal-number 1 0 old,
-        line-of k line (refusal 1 0 old) e (on-short s) ∙ refusal-line 1 0 old,
-      ))
+      (λ s. let is : Answered 1 0 = answered 1 0 (on-short s) in inl (s, sym (e .0) ∙ is .0, sym (e .1) ∙ is .1))
       (λ s. inr (s, by-reading k line some e s (reading fold t) refl))
 
-  from-cause : (k line : ℕ) → Refused k line → readCall fold t old ≡ refusal k line old
+  from-cause : (k line : ℕ) → Refused k line → Answered k line
   unfolding Refused
   from-cause k line (inl x) =
-      on-short (x .0) ∙ ap (λ (n : ℕ). refusal n 0 old) (sym (x .1)) ∙ ap (λ (n : ℕ). refusal k n old) (sym (x .2))
-  from-cause k line (inr x) = on-refused k line (x .0) (judge .refuses t k line .1 (x .1))
+      answered k line (on-short (x .0) ∙ ap (λ (n : ℕ). refusal n 0 old) (sym (x .1)) ∙ ap (λ (n : ℕ). refusal k n old) (sym (x .2)))
+  from-cause k line (inr x) = answered k line (on-refused k line (x .0) (judge .refuses t k line .1 (x .1)))
+
+  -- what it returns and leaves
+  leaves-reading : short old ≡ false → (x : Reading) → reading fold t ≡ x → ReadLeaves old (readCall fold t old)
+  leaves-reading l (read cs) q = subst (ReadLeaves old) (sym (on-read cs l q)) (leaves-accepted old (length (namesOf cs)) (length cs) (tablesOf cs old))
+  leaves-reading l (refused k line) q =
+      subst (ReadLeaves old) (sym (on-refused k line l q)) (leaves-refusal old k line (refuses-placed fold t k line (judge .refuses t k line .0 q)))
+
+  leaves-call : ReadLeaves old (readCall fold t old)
+  unfolding without
+  leaves-call =
+      either (short old)
+      (λ s. subst (ReadLeaves old) (sym (on-short s)) (leaves-kept old 1 (one-found 1 1 keptCauses refl refl)))
+      (λ s. leaves-reading s (reading fold t) refl)
 
   -- a call is one or the other
   Either : Type 0
@@ -157,7 +246,7 @@ module _ (fold : ℕ → ℕ) (judge : Reads fold) (t : Bytes) (old : Areas) whe
 
 -- what the call accepts and refuses is what the grammar says
 pub read-calls : (fold : ℕ → ℕ) → Reads fold → ReadCalls fold
-unfolding Accepts Refused Either
+unfolding Accepts Answered Refused Either
 read-calls fold judge =
     record {
       accepts = λ t old o n m. (
@@ -165,5 +254,6 @@ read-calls fold judge =
         from-book fold judge t old o n m,
       );
       refuses = λ t old k line some. (to-cause fold judge t old k line some, from-cause fold judge t old k line);
+      leaves = leaves-call fold judge;
       every-call = one-or-other fold judge;
     }

@@ -5,4 +5,5 @@ pub mod Judging
 pub mod Good
 pub mod Theorems
 pub mod Calls
+pub mod Sizes
 pub mod Samples

@@ -9,6 +9,8 @@ use lib.Dec.{eqb, leb, ltb}
 use lib.ListN.{length, length-append}
 use borrow.Author.Tests.{ltb-true, ltb-false, leb-true, leb-false, lt-ltb, le-ltb, le-leb, lt-leb, eqb-true, eqb-false, eq-eqb, ne-eqb}
 use Rattle.limits.specs.Book.{names, rules}
+use Rattle.limits.specs.Cause.{faultCauses}
+use Rattle.limits.proofs.Causes.{without, other}
 use Rattle.sets.specs.Set.{pick}
 use Rattle.sets.proofs.Logic.{either, pick-true, pick-false}
 use Rattle.grammar.specs.Bytes.{Bytes}
@@ -36,10 +38,10 @@ pub refused-line : (k line j at : ℕ) → refused k line ≡ refused j at → l
 refused-line k line j at e = cc
 
 -- the three forms
-by-form : {X : Type 0} (f : Form) → (f ≡ silent → X) → ((c : Clause) → f ≡ rule c → X) → (f ≡ fault → X) → X
+by-form : {X : Type 0} (f : Form) → (f ≡ silent → X) → ((c : Clause) → f ≡ rule c → X) → ((k : ℕ) → f ≡ fault k → X) → X
 by-form silent s r w = s refl
 by-form (rule c) s r w = r c refl
-by-form fault s r w = w refl
+by-form (fault k) s r w = w k refl
 
 -- Causes of a rule's line.
 
@@ -127,6 +129,11 @@ module _ (fold : ℕ → ℕ) where
       read-on s ls cs line (ap (lineCause cs) q ∙ z) ∙ ap (λ (f : Form). readLines fold ls (taken cs f) (suc line)) q
 
   module _ (forms : Classified fold) where
+    -- the number of a fault is not 0
+    pub nonzero-fault : (s : Bytes) (k : ℕ) → Says fold s (fault k) → k ≡ 0 → ⊥
+    unfolding without
+    nonzero-fault s k d = other 0 k faultCauses refl (forms .causes s k d)
+
     -- a line that is read on from: the clauses that it adds, none or one
     record Step (s : Bytes) (cs : List Clause) : Type 0 where
       new : List Clause
@@ -154,7 +161,7 @@ module _ (fold : ℕ → ℕ) where
           fits = fits-more cs c l m;
           says = λ ls es n. inr (c, es, forms .forms s (rule c) .1 q, refl, n);
         }))
-        (λ q. absurd (omega (arith, sym (ap (lineCause cs) q) ∙ z)))
+        (λ k q. absurd (nonzero-fault s k (forms .forms s (fault k) .1 q) (sym (ap (lineCause cs) q) ∙ z)))
 
     -- and the reading goes on with them
     step-on : (s : Bytes) (ls : List Bytes) (cs : List Clause) (line : ℕ) → lineCause cs (formOf fold s) ≡ 0
@@ -175,12 +182,12 @@ module _ (fold : ℕ → ℕ) where
         inr (c, says, inl (ap (lineCause cs) q ∙ cause-rules cs c l, full)))
         (λ l m. inr (c, says, inr (ap (lineCause cs) q ∙ cause-names cs c l m, l, m)))
         (λ l m. absurd (n (ap (lineCause cs) q ∙ cause-none cs c l m))))
-        (λ q. inl (ap (lineCause cs) q, forms .forms s fault .1 q))
+        (λ k q. inl (subst (λ (j : ℕ). Says fold s (fault j)) (sym (ap (lineCause cs) q)) (forms .forms s (fault k) .1 q)))
 
     -- and what bars a line is its cause
     bars-cause : (s : Bytes) (cs : List Clause) (k : ℕ) → Barred fold cs s k → (lineCause cs (formOf fold s) ≡ k) × (k ≡ 0 → ⊥)
     unfolding lineCause Barred
-    bars-cause s cs k (inl (e, m)) = (ap (lineCause cs) (forms .forms s fault .0 m) ∙ sym e, λ z. omega arith)
+    bars-cause s cs k (inl m) = (ap (lineCause cs) (forms .forms s (fault k) .0 m), nonzero-fault s k m)
     bars-cause s cs k (inr (c, m, inl (e, full))) =
         (ap (lineCause cs) (forms .forms s (rule c) .0 m) ∙ cause-rules cs c (omega arith) ∙ sym e, λ z. omega arith)
     bars-cause s cs k (inr (c, m, inr (e, l, many))) =

@@ -1,12 +1,13 @@
--- Sample texts with what they come to, computed: the number and the line, or the text that is written from their names and rules.
+-- Sample texts with what they come to, computed: the number and the line, or the text that is written from their names and rules; and lines at
+-- the limits of names and rules.
 -- Assumes nothing.
 use mathlib.Core.Path.{_≡_, refl}
 use mathlib.Core.List.{List, [], _∷_, map}
-use Prim.Native.Nat.{ℕ}
+use Prim.Native.Nat.{ℕ, zero, suc, _+_, _-_, _/_, _%_}
 use Prim.Native.String.{String}
 use Rattle.sets.specs.Set.{pick, members}
 use Rattle.grammar.specs.Bytes.{Bytes, bytes, blank, small, folded, nameByte, allOf}
-use Rattle.grammar.specs.Grammar.{joined}
+use Rattle.grammar.specs.Grammar.{Clause, rule, joined}
 use Rattle.grammar.specs.Lines.{span, grown, lines, goesOn, wordsOf, isName, allNames, fromColon, fromHead, starts, formOf}
 use Rattle.tables.specs.Numbering.{sameBytes, place, meet, meetAll, standing, namesOf, places, numbered}
 use Rattle.tables.specs.Reading.{Reading, read, refused, lineCause, taken, readLines, bookOf, reading}
@@ -40,3 +41,37 @@ table =
 pub texts-agree : map (λ (x : Sample). come-to (reading folded (bytes (x .0)))) table ≡ map (λ (x : Sample). (x .1, x .2, bytes (x .3))) table
 unfolding pick members blank small folded nameByte allOf joined span grown lines goesOn wordsOf isName allNames fromColon fromHead starts formOf sameBytes place meet meetAll standing namesOf places numbered lineCause taken readLines bookOf reading spacedOn spaced ruleText written
 texts-agree = refl
+
+-- Lines at the limits of names and rules, built from numbers; as text they are in the crate `known`.
+
+-- n times the same clause
+unfoldable pub times : ℕ → Clause → List Clause
+times zero c = []
+times (suc n) c = c ∷ times n c
+
+-- n names of two bytes, from the k-th on
+unfoldable pub namesOn : ℕ → ℕ → List Bytes
+namesOn zero k = []
+namesOn (suc n) k = ((97 + k % 26) ∷ (97 + k / 26) ∷ []) ∷ namesOn n (suc k)
+
+-- a clause with n names: the head `a`, and a body of the others
+abbrev pub wide : ℕ → Clause
+wide n = record { head = bytes "a"; body = namesOn (n - 1) 0 }
+
+-- the clauses above, a clause, and the cause for which its line is refused
+abbrev pub Barring : Type 0
+Barring = List Clause × Clause × ℕ
+
+abbrev pub barrings : List Barring
+barrings =
+    ([], wide 128, 0)
+    ∷ ([], wide 129, 6)
+    ∷ (times 255 (wide 1), wide 1, 0)
+    ∷ (times 256 (wide 1), wide 1, 7)
+    ∷ (times 256 (wide 1), wide 129, 7)
+    ∷ []
+
+-- they are refused for these
+pub causes-agree : map (λ (x : Barring). lineCause (x .0) (rule (x .1))) barrings ≡ map (λ (x : Barring). x .2) barrings
+unfolding pick sameBytes place meet meetAll standing namesOf lineCause times namesOn
+causes-agree = refl

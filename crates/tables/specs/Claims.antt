@@ -5,8 +5,9 @@ use mathlib.Core.Logic.{_⊎_, _↔_}
 use mathlib.Core.Bool.{true, false}
 use mathlib.Core.List.{List, [], _∷_, _++_}
 use Prim.Native.Nat.{ℕ, _<_, _≤_}
-use lib.ListN.{length, getD}
-use Rattle.limits.specs.Book.{textBytes}
+use lib.ListN.{length, getD, drop, replicate}
+use Rattle.limits.specs.Book.{textBytes, rules, nameArea, bodyArea}
+use Rattle.limits.specs.Cause.{OneOf, lineCauses, keptCauses, readCauses}
 use Rattle.program.specs.Program.{WellFormed}
 use Rattle.grammar.specs.Bytes.{Bytes, Among}
 use Rattle.grammar.specs.Grammar.{Clause}
@@ -33,16 +34,43 @@ pub record Reads (fold : ℕ → ℕ) : Type 0 where
 abbrev pub accepted : ℕ → ℕ → Areas → Outcome
 accepted n m o = record { answer = record { number = 0; line = 0; names = n; rules = m }; areas = o }
 
+-- a refusal: its number, its line, no names and no rules, and the areas as they are left
+abbrev pub refusedWith : ℕ → ℕ → Areas → Outcome
+refusedWith k line left = record { answer = record { number = k; line = line; names = 0; rules = 0 }; areas = left }
+
+-- names and rules zero over their stated sizes, and what lies past these as it was
+abbrev pub zeroed : Areas → Areas
+zeroed old =
+    record {
+      spellings = replicate nameArea 0 ++ drop nameArea (old .spellings);
+      heads = replicate rules 0 ++ drop rules (old .heads);
+      bodies = replicate bodyArea 0 ++ drop bodyArea (old .bodies);
+    }
+
+-- "Returned" and "Left" of document 01's table, by number: r is what the reader returns and leaves of the areas old
+pub record ReadLeaves (old : Areas) (r : Outcome) : Type 0 where
+  -- 0 and these are all its numbers
+  pub no-other : (r .answer .number ≡ 0) ⊎ OneOf (r .answer .number) readCauses
+  -- a line comes with exactly these
+  pub lined : (r .answer .line ≡ 0 → ⊥) ↔ OneOf (r .answer .number) lineCauses
+  -- "number, zeros", "all as it was"
+  pub kept : OneOf (r .answer .number) keptCauses → r ≡ refusedWith (r .answer .number) 0 old
+  -- "number, line", "names, rules zero"
+  pub cleared : OneOf (r .answer .number) lineCauses → r ≡ refusedWith (r .answer .number) (r .answer .line) (zeroed old)
+
 -- demands 1 and 2 for the reader's call
 pub record ReadCalls (fold : ℕ → ℕ) : Type 0 where
   -- it accepts exactly the books of the grammar within the limits, and leaves exactly their tables
   pub accepts : (t : Bytes) (old o : Areas) (n m : ℕ) → (readCall fold t old ≡ accepted n m o)
       ↔ ((cs : List Clause) × (short old ≡ false) × (length t ≤ textBytes) × Book fold t cs
       × (n ≡ length (namesOf cs)) × (m ≡ length cs) × (o ≡ tablesOf cs old))
-  -- it refuses under the number and the line of the first cause, and leaves what document 01 says
-  pub refuses : (t : Bytes) (old : Areas) (k line : ℕ) → (k ≡ 0 → ⊥) → (readCall fold t old ≡ refusal k line old)
+  -- it refuses under the number and the line of the first cause
+  pub refuses : (t : Bytes) (old : Areas) (k line : ℕ) → (k ≡ 0 → ⊥)
+      → ((readCall fold t old .answer .number ≡ k) × (readCall fold t old .answer .line ≡ line))
       ↔ (((short old ≡ true) × (k ≡ 1) × (line ≡ 0)) ⊎ ((short old ≡ false) × Refuses fold t k line))
-  -- and every call is one or the other
+  -- and returns and leaves what document 01 says of that number
+  pub leaves : (t : Bytes) (old : Areas) → ReadLeaves old (readCall fold t old)
+  -- every call is one or the other
   pub every-call : (t : Bytes) (old : Areas) → ((n : ℕ) × (m : ℕ) × (o : Areas) × (readCall fold t old ≡ accepted n m o))
       ⊎ ((k : ℕ) × (line : ℕ) × (k ≡ 0 → ⊥) × (readCall fold t old ≡ refusal k line old))
 

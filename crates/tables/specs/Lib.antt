@@ -3,4 +3,5 @@ pub mod Reading
 pub mod Areas
 pub mod Begun
 pub mod Writing
+pub mod Sizes
 pub mod Claims

@@ -35,10 +35,10 @@ pub record Book (fold : ℕ → ℕ) (t : Bytes) (cs : List Clause) : Type 0 whe
   pub says : Saying fold ls cs
   pub fits : Fits cs
 
--- after the clauses cs, the line s is refused under this number: 5, then 7, then 6
+-- after the clauses cs, the line s is refused under this number: that of its fault, then 7, then 6
 unfoldable pub Barred : (ℕ → ℕ) → List Clause → Bytes → ℕ → Type 0
 Barred fold cs s k =
-    ((k ≡ 5) × Says fold s fault)
+    Says fold s (fault k)
     ⊎ ((c : Clause) × Says fold s (rule c)
     × (((k ≡ 7) × (length cs ≡ rules)) ⊎ ((k ≡ 6) × (length cs < rules) × (names < length (namesOf (cs ++ (c ∷ [])))))))
 
@@ -70,13 +70,13 @@ pub data Reading : Type 0 where
 -- the cause for which a line of that form is refused after the clauses cs, 0 for none
 unfoldable pub lineCause : List Clause → Form → ℕ
 lineCause cs silent = 0
-lineCause cs fault = 5
+lineCause cs (fault k) = k
 lineCause cs (rule c) = pick (leb rules (length cs)) 7 (pick (ltb names (length (namesOf (cs ++ (c ∷ []))))) 6 0)
 
 -- the clauses after a line of that form
 unfoldable pub taken : List Clause → Form → List Clause
 taken cs silent = cs
-taken cs fault = cs
+taken cs (fault k) = cs
 taken cs (rule c) = cs ++ (c ∷ [])
 
 -- the lines from number `line` on, after the clauses cs

@@ -48,10 +48,8 @@ pub fn formed(heads: &[u16], bodies: &[u64], n: usize, m: usize) -> bool
 // Notes name a: it joins the row `twice` where it is in the row `once`, else that row.
 fn note(once: &mut [u64], twice: &mut [u64], a: usize)
     requires { ⌜ (bodyWords ≤ length (now once)) × (bodyWords ≤ length (now twice)) × (a < names) ⌝ }
-    ensures once { λ r. ⌜ now (once .exit)
-        ≡ pick (row (part 0 bodyWords (now (once .entry))) a) (now (once .entry)) (joined a (now (once .entry))) ⌝ }
-    ensures twice { λ r. ⌜ now (twice .exit)
-        ≡ pick (row (part 0 bodyWords (now (once .entry))) a) (joined a (now (twice .entry))) (now (twice .entry)) ⌝ }
+    ensures once { λ r. ⌜ now (once .exit) ≡ pick (row (part 0 bodyWords (now (once .entry))) a) (now (once .entry)) (joined a (now (once .entry))) ⌝ }
+    ensures twice { λ r. ⌜ now (twice .exit) ≡ pick (row (part 0 bodyWords (now (once .entry))) a) (joined a (now (twice .entry))) (now (twice .entry)) ⌝ }
 {
     if rows::read::member(once, 0, Book::BODY_WORDS, a) {
         rows::write::insert(twice, 0, Book::BODY_WORDS, a);
@@ -77,8 +75,7 @@ pub fn several(heads: &[u16], m: usize) -> [u64; Book::BODY_WORDS]
 
 // How many of the first m rules have a head in that row.
 pub fn helpers(heads: &[u16], m: usize, several: &[u64]) -> usize
-    requires { ⌜ (m ≤ rules) × (rules ≤ length (now heads)) × (bodyWords ≤ length (now several))
-        × ((j : ℕ) → j < m → getD (now heads) j 0 < names) ⌝ }
+    requires { ⌜ (m ≤ rules) × (rules ≤ length (now heads)) × (bodyWords ≤ length (now several)) × ((j : ℕ) → j < m → getD (now heads) j 0 < names) ⌝ }
     ensures { λ r. ⌜ r ≡ count m (λ j. row (part 0 bodyWords (now (several .entry))) (getD (now (heads .entry)) j 0)) ⌝ }
 {
     let mut found = 0;

@@ -53,6 +53,10 @@ long-enough s h b t r e f =
     let u = or-none (ltb h rules) (ltb b bodyArea) (q .1) in
     (ltb-false s nameArea (q .0), ltb-false h rules (u .0), ltb-false b bodyArea (u .1), ltb-false t textBytes (p .1))
 
+-- a test under the letters of a table that are ours is the test under ours
+pub by-ours : (fold ours : ℕ → ℕ) (o : Areas) (n m : ℕ) (ok : Bool) → fold ≡ ours → ok ≡ wellFormed fold o n m → ok ≡ wellFormed ours o n m
+by-ours fold ours o n m ok e g = g ∙ ap (λ (f : ℕ → ℕ). wellFormed f o n m) e
+
 -- tables in order are within the limits
 pub limits : (fold : ℕ → ℕ) (o : Areas) (n m : ℕ) (ok : Bool) → ok ≡ wellFormed fold o n m → not ok ≡ false → (n ≤ names) × (m ≤ rules)
 limits fold o n m ok e f = few fold o n m (sym e ∙ not-false ok f)

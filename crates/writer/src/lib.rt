@@ -1,6 +1,7 @@
 // The public call that writes tables as text.
 use limits::Book;
 use limits::Refusal;
+use scan::table::folding;
 ghost use mathlib.Core.Path.{_≡_};
 ghost use Rattle.grammar.specs.Bytes.{folded};
 ghost use Rattle.tables.specs.Writing.{writeCall};
@@ -41,7 +42,9 @@ pub fn write(
     text: &mut [u8],
 ) -> Written
     ensures { λ r. ⌜ record { number = r .number; size = r .size; text = now (text .exit) }
-        ≡ writeCall folded (record { spellings = now (spellings .entry); heads = now (heads .entry); bodies = now (bodies .entry) }) n m (now (text .entry)) ⌝ }
+        ≡ writeCall folded
+        (record { spellings = now (spellings .entry); heads = now (heads .entry); bodies = now (bodies .entry) })
+        n m (now (text .entry)) ⌝ }
 {
     if too_short(spellings.len(), heads.len(), bodies.len(), text.len()) {
         return Written {
@@ -49,7 +52,8 @@ pub fn write(
             size: 0,
         };
     }
-    if !tablecheck::well_formed(spellings, heads, bodies, n, m) {
+    let table = folding();
+    if !tablecheck::well_formed(spellings, heads, bodies, &table, n, m) {
         return Written {
             number: Refusal::ILL_FORMED,
             size: 0,

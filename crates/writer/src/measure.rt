@@ -37,7 +37,8 @@ pub fn rest_len(spellings: &[u8], bodies: &[u64], n: usize, at: usize, from: usi
 
 // The length of rule j, its line end aside.
 pub fn rule_len(spellings: &[u8], heads: &[u16], bodies: &[u64], n: usize, j: usize) -> usize
-    requires { ⌜ (n ≤ names) × (j < rules) × (nameArea ≤ length (now spellings)) × (rules ≤ length (now heads)) × (bodyArea ≤ length (now bodies)) ⌝ }
+    requires { ⌜ (n ≤ names) × (j < rules)
+        × (nameArea ≤ length (now spellings)) × (rules ≤ length (now heads)) × (bodyArea ≤ length (now bodies)) ⌝ }
     ensures len { λ r. ⌜ r ≡ length (lineOf (now (spellings .entry)) (now (heads .entry)) (now (bodies .entry)) n j) ⌝ }
     ensures bound { λ r. ⌜ r ≤ lineBytes ⌝ }
 {
@@ -52,7 +53,8 @@ pub fn rule_len(spellings: &[u8], heads: &[u16], bodies: &[u64], n: usize, j: us
 
 // The length of the text.
 pub fn text_len(spellings: &[u8], heads: &[u16], bodies: &[u64], n: usize, m: usize) -> usize
-    requires { ⌜ (n ≤ names) × (m ≤ rules) × (nameArea ≤ length (now spellings)) × (rules ≤ length (now heads)) × (bodyArea ≤ length (now bodies)) ⌝ }
+    requires { ⌜ (n ≤ names) × (m ≤ rules)
+        × (nameArea ≤ length (now spellings)) × (rules ≤ length (now heads)) × (bodyArea ≤ length (now bodies)) ⌝ }
     ensures { λ r. ⌜ r ≡ length (textOf (now (spellings .entry)) (now (heads .entry)) (now (bodies .entry)) n m) ⌝ }
 {
     let mut len = Cursor::MARK_BYTES;

@@ -37,7 +37,8 @@ pub fn put_rest(
     requires { ⌜ (n ≤ names) × (nameArea ≤ length (now spellings)) × (row + bodyWords ≤ length (now bodies)) × (from ≤ names) ⌝ }
     requires { ⌜ at + length (restOf (now spellings) n (now bodies) row from) ≤ length (now text) ⌝ }
     ensures next { λ r. ⌜ r ≡ at + length (restOf (now (spellings .entry)) n (now (bodies .entry)) row from) ⌝ }
-    ensures text { λ r. ⌜ now (text .exit) ≡ put at (restOf (now (spellings .entry)) n (now (bodies .entry)) row from) (now (text .entry)) ⌝ }
+    ensures text { λ r. ⌜ now (text .exit)
+        ≡ put at (restOf (now (spellings .entry)) n (now (bodies .entry)) row from) (now (text .entry)) ⌝ }
 {
     let mut o = at;
     let mut a = rows::walk::next(bodies, row, Book::BODY_WORDS, from);
@@ -59,10 +60,12 @@ pub fn put_rule(
     text: &mut [u8],
     at: usize,
 ) -> usize
-    requires { ⌜ (n ≤ names) × (j < rules) × (nameArea ≤ length (now spellings)) × (rules ≤ length (now heads)) × (bodyArea ≤ length (now bodies)) ⌝ }
+    requires { ⌜ (n ≤ names) × (j < rules)
+        × (nameArea ≤ length (now spellings)) × (rules ≤ length (now heads)) × (bodyArea ≤ length (now bodies)) ⌝ }
     requires { ⌜ at + length (lineOf (now spellings) (now heads) (now bodies) n j) ≤ length (now text) ⌝ }
     ensures next { λ r. ⌜ r ≡ at + length (lineOf (now (spellings .entry)) (now (heads .entry)) (now (bodies .entry)) n j) ⌝ }
-    ensures text { λ r. ⌜ now (text .exit) ≡ put at (lineOf (now (spellings .entry)) (now (heads .entry)) (now (bodies .entry)) n j) (now (text .entry)) ⌝ }
+    ensures text { λ r. ⌜ now (text .exit)
+        ≡ put at (lineOf (now (spellings .entry)) (now (heads .entry)) (now (bodies .entry)) n j) (now (text .entry)) ⌝ }
 {
     let colon = put_name(spellings, n, heads[j] as usize, text, at);
     text[colon] = Cursor::COLON;
@@ -85,9 +88,11 @@ pub fn put_rules(
     text: &mut [u8],
     at: usize,
 )
-    requires { ⌜ (n ≤ names) × (m ≤ rules) × (nameArea ≤ length (now spellings)) × (rules ≤ length (now heads)) × (bodyArea ≤ length (now bodies)) ⌝ }
+    requires { ⌜ (n ≤ names) × (m ≤ rules)
+        × (nameArea ≤ length (now spellings)) × (rules ≤ length (now heads)) × (bodyArea ≤ length (now bodies)) ⌝ }
     requires { ⌜ at + length (linesOf (now spellings) (now heads) (now bodies) n m) ≤ length (now text) ⌝ }
-    ensures { λ r. ⌜ now (text .exit) ≡ put at (linesOf (now (spellings .entry)) (now (heads .entry)) (now (bodies .entry)) n m) (now (text .entry)) ⌝ }
+    ensures { λ r. ⌜ now (text .exit)
+        ≡ put at (linesOf (now (spellings .entry)) (now (heads .entry)) (now (bodies .entry)) n m) (now (text .entry)) ⌝ }
 {
     let mut o = at;
     let mut j = 0;
@@ -108,9 +113,11 @@ pub fn put_text(
     m: usize,
     text: &mut [u8],
 )
-    requires { ⌜ (n ≤ names) × (m ≤ rules) × (nameArea ≤ length (now spellings)) × (rules ≤ length (now heads)) × (bodyArea ≤ length (now bodies)) ⌝ }
+    requires { ⌜ (n ≤ names) × (m ≤ rules)
+        × (nameArea ≤ length (now spellings)) × (rules ≤ length (now heads)) × (bodyArea ≤ length (now bodies)) ⌝ }
     requires { ⌜ length (textOf (now spellings) (now heads) (now bodies) n m) ≤ length (now text) ⌝ }
-    ensures { λ r. ⌜ now (text .exit) ≡ begun (textOf (now (spellings .entry)) (now (heads .entry)) (now (bodies .entry)) n m) (now (text .entry)) ⌝ }
+    ensures { λ r. ⌜ now (text .exit)
+        ≡ begun (textOf (now (spellings .entry)) (now (heads .entry)) (now (bodies .entry)) n m) (now (text .entry)) ⌝ }
 {
     let mark = Cursor::MARK;
     let at = copying::copy(&mark, text, 0);

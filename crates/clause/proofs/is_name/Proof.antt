@@ -5,10 +5,10 @@ use Rattle.clause.proofs.is_name.Statement.{statement}
 use Rattle.clause.proofs.is_name.Tie as tie
 
 returns : tie.Need-returns
-returns c t e = name-none t _ _ (c .if1 .taken) e
+returns c fold t e = name-none fold t _ _ (c .if1 .taken) e
 
 returns-2 : tie.Need-returns-2
-returns-2 c t e = name-some t _ _ (c .if1 .left) e
+returns-2 c fold t e = name-some fold t _ _ (c .if1 .left) e
 
 pub is-name-spec : {M : Type 1} → statement M
 is-name-spec = tie.close (tie.spec returns (λ c. search needs) returns-2)

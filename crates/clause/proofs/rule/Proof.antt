@@ -1,102 +1,116 @@
 -- `clause::rule` meets its contract. Assumes nothing.
-use mathlib.Core.Path.{sym, ap, _∙_}
+use mathlib.Core.Path.{_≡_, refl, sym, ap, _∙_, subst}
+use Prim.Native.Nat.{ℕ}
 use native.Mathlib.Omega.{arith}
+use lib.ListN.{length}
 use borrow.Author.Tests.{not-true, not-false}
 use borrow.Author.Needs.{needs}
+use Rattle.limits.specs.Book.{bodyWords}
+use Rattle.sets.specs.Set.{emptySet}
+use Rattle.words.proofs.Rows.{length-pack}
+use Rattle.grammar.specs.Bytes.{letters}
 use Rattle.scan.specs.declared.cursor.Cursor.{Cursor}
+use Rattle.clause.specs.declared.Found.{Found}
+use Rattle.clause.specs.Line.{Closed}
+use Rattle.clause.specs.Found.{lexiconOf, Bodied, Said}
 use Rattle.clause.proofs.Forms.{past-word, headless, uncoloned, colon-in, closed-body}
-use Rattle.clause.proofs.Heading.{headed-ready}
-use Rattle.clause.proofs.Saying.{said-fault, said-body}
+use Rattle.clause.proofs.Rows.{row-clear}
+use Rattle.clause.proofs.Saying.{said-fault, met-ready, said-body}
 use Rattle.clause.proofs.rule.Statement.{statement}
 use Rattle.clause.proofs.rule.Tie as tie
 
 returns : tie.Need-returns
-returns c =
-    let s = c .before .before .before .before .before .before .before .before .before .before in
+returns c = let s = c .before .before .before .before .before .before .before .before .before .before in
     let a = s .args in
-    said-fault (a .text .now) (a .cursor .at) (a .n) (a .m) _ _ _ (a .spellings .now) (a .first .now) (a .prior .now) (a .heads .now) (a .bodies .now)
-    (headless (a .text .now) (a .cursor .at) (s .pre .1 .0) (s .pre .1 .1)
-    (sym (c .before .is-name .ensures (a .text .now) (c .before .before .word .ensures .0)) ∙ not-true _ (c .if1 .taken)))
+    let x = lexiconOf (a .n) (a .spellings .now) (a .first .now) (a .prior .now) in
+    subst
+    (λ (r : Found).
+    (r .cursor .line ≡ a .cursor .line)
+    × Said (letters (a .table .now)) (a .text .now) (a .cursor .at) x (r .fault) (r .cursor .at) (r .room) (r .head)
+    (lexiconOf (r .names) (a .spellings .now) (a .first .now) (a .prior .now)) (a .row .now))
+    (sym (c .at-fault .ensures)) (
+      refl,
+      said-fault _ (a .text .now) (a .cursor .at) x _ _ _ (a .row .now)
+          (headless _ (s .pre .1 .0 .0 .1) (a .text .now) (a .cursor .at) (s .pre .0 .0) (s .pre .0 .1)
+          (sym (c .before .before .is-name .ensures _ (a .text .now) (c .before .before .before .word .ensures .0)) ∙ not-true _ (c .before .if1 .taken))),
+    )
 
 returns-2 : tie.Need-returns-2
-returns-2 c =
-    let at-word = c .before .before .before .before .before in
-    let s = at-word .before .before .before .before .before .before .before .before in
+returns-2 c = let s = c .before .before .before .before .before .before .before .before .before .before .before .before .before .before in
     let a = s .args in
-    said-fault (a .text .now) (a .cursor .at) (a .n) (a .m) _ _ _ (a .spellings .now) (a .first .now) (a .prior .now) (a .heads .now) (a .bodies .now)
-    (uncoloned (a .text .now) (a .cursor .at) (s .pre .1 .0) (s .pre .1 .1) _
-    (past-word (a .text .now) (a .cursor .at) _ _ (at-word .word .ensures .0) (ap (λ (k : Cursor). k .at) (c .before .before .past-blanks .ensures)))
-    (sym (c .before .sees .ensures) ∙ not-true _ (c .if2 .taken)))
-
-head-requires : tie.Need-head-requires
-head-requires c κs =
-    let at-if1 = c .before .before .before .before .before .before .before .before in
-    let at-is-name = at-if1 .before in
-    let at-word = at-is-name .before in
-    let s = at-word .before .before .before .before .before .before .before .before in
-    let a = s .args in
-    let w = at-word .word .ensures in (
-      (s .pre .0 .0, record { good = sym (at-is-name .is-name .ensures (a .text .now) (w .0)) ∙ not-false _ (at-if1 .if1 .left); ends = w .0; hashed = w .1 }, s .pre .0 .4),
-      (s .pre .0 .1, s .pre .0 .2, s .pre .0 .3),
+    let x = lexiconOf (a .n) (a .spellings .now) (a .first .now) (a .prior .now) in
+    subst
+    (λ (r : Found).
+    (r .cursor .line ≡ a .cursor .line)
+    × Said (letters (a .table .now)) (a .text .now) (a .cursor .at) x (r .fault) (r .cursor .at) (r .room) (r .head)
+    (lexiconOf (r .names) (a .spellings .now) (a .first .now) (a .prior .now)) (a .row .now))
+    (sym (c .at-fault2 .ensures)) (
+      ap (λ (k : Cursor). k .line) (c .before .before .before .past-blanks .ensures) ∙ ap (λ (k : Cursor). k .line) (c .before .before .before .before .moved .ensures),
+      said-fault _ (a .text .now) (a .cursor .at) x _ _ _ (a .row .now)
+          (uncoloned _ (s .pre .1 .0 .0 .1) (a .text .now) (a .cursor .at) (s .pre .0 .0) (s .pre .0 .1) _
+          (past-word _ (a .text .now) (a .cursor .at) _ _ (ap (λ (k : Cursor). k .at) (c .before .before .before .before .moved .ensures) ∙ c .before .before .before .before .before .before .before .word .ensures .0)
+          (ap (λ (k : Cursor). k .at) (c .before .before .before .past-blanks .ensures)))
+          (sym (c .before .before .sees .ensures) ∙ not-true _ (c .before .if2 .taken))),
     )
 
-add-t28 : tie.Need-add-t28
-add-t28 c =
-    let back = c .before .before .before .before .before .before .before .before .before .before .before .before .before in
-    let at-if2 = back .before .before .before .before in
-    let at-sees = at-if2 .before in
-    let at-past-blanks = at-sees .before in
-    let at-word = at-past-blanks .before .before .before in
-    let s = at-word .before .before .before .before .before .before .before .before in
+meet-requires : tie.Need-meet-requires
+meet-requires c κs = let s = c .before .before .before .before .before .before .before .before .before .before .before .before .before .before .before .before in
     let a = s .args in
-    omega (
-      arith,
-      colon-in (a .text .now) (a .cursor .at) (s .pre .1 .0) (s .pre .1 .1) _
-          (past-word (a .text .now) (a .cursor .at) _ _ (at-word .word .ensures .0) (ap (λ (k : Cursor). k .at) (at-past-blanks .past-blanks .ensures)))
-          (sym (at-sees .sees .ensures) ∙ not-false _ (at-if2 .if2 .left)),
-      s .pre .0 .4,
+    let w = c .before .before .before .before .before .before .before .before .before .word .ensures in (
+      (record { good = sym (c .before .before .before .before .before .before .before .before .is-name .ensures _ (a .text .now) (w .0)) ∙ not-false _ (c .before .before .before .before .before .before .before .if1 .left); ends = w .0; hashed = w .1 }, s .pre .1 .0 .0),
+      s .pre .1 .1,
     )
+
+add-moved : tie.Need-add-moved
+add-moved c = let s = c .before .before .before .before .before .before .before .before .before .before .before .before .before .before .before .before .before .before .before .before .before .before .before .before in
+    let a = s .args in
+    let l =
+    colon-in _ (s .pre .1 .0 .0 .1) (a .text .now) (a .cursor .at) (s .pre .0 .0) (s .pre .0 .1) _
+    (past-word _ (a .text .now) (a .cursor .at) _ _ (ap (λ (k : Cursor). k .at) (c .before .before .before .before .before .before .before .before .before .before .before .before .before .before .moved .ensures) ∙ c .before .before .before .before .before .before .before .before .before .before .before .before .before .before .before .before .before .word .ensures .0)
+    (ap (λ (k : Cursor). k .at) (c .before .before .before .before .before .before .before .before .before .before .before .before .before .past-blanks .ensures)))
+    (sym (c .before .before .before .before .before .before .before .before .before .before .before .before .sees .ensures) ∙ not-false _ (c .before .before .before .before .before .before .before .before .before .before .before .if2 .left)) in
+    record { fits = omega (arith, l) }
 
 body-requires : tie.Need-body-requires
-body-requires c κs =
-    let back = c .before .before .before .before .before .before .before .before .before .before .before .before .before in
-    let at-head = back .before .before in
-    let at-if2 = at-head .before .before .before .before .before .before in
-    let at-sees = at-if2 .before in
-    let at-past-blanks = at-sees .before in
-    let at-word = at-past-blanks .before .before .before in
-    let s = at-word .before .before .before .before .before .before .before .before in
+body-requires c κs = let s = c .before .before .before .before .before .before .before .before .before .before .before .before .before .before .before .before .before .before .before .before .before .before .before .before .before .before .before .before .before in
     let a = s .args in
-    let h = at-head .head in (
-      headed-ready _ _ (a .m) _ _ (a .spellings .now) (h .last .1 .1 .1 .1 .0) (h .last .1 .1 .1 .1 .1 .0) (h .last .1 .1 .1 .1 .1 .1 .0) (a .heads .now)
-          (h .last .1 .1 .1 .1 .1 .1 .1 .0) (a .bodies .now) (h .last .1 .1 .1 .1 .1 .1 .1 .1 .0) (h .ensures) (s .pre .0 .3),
-      closed-body (a .text .now) (a .cursor .at) (s .pre .1 .0) (s .pre .1 .1) _
-          (past-word (a .text .now) (a .cursor .at) _ _ (at-word .word .ensures .0) (ap (λ (k : Cursor). k .at) (at-past-blanks .past-blanks .ensures)))
-          (sym (at-sees .sees .ensures) ∙ not-false _ (at-if2 .if2 .left)),
-      s .pre .0 .4,
+    let m = c .before .before .before .before .before .before .before .before .before .before .before .before .meet in
+    let x = lexiconOf (a .n) (a .spellings .now) (a .first .now) (a .prior .now) in
+    let y = lexiconOf (m .result .names) (m .last .1 .1 .1 .1 .0) (m .last .1 .1 .1 .1 .1 .0) (m .last .1 .1 .1 .1 .1 .1 .0) in (
+      (
+        subst (λ (k : Cursor). Closed (a .text .now) (k .at)) (sym (c .before .before .before .before .moved2 .ensures))
+            (closed-body _ (s .pre .1 .0 .0 .1) (a .text .now) (a .cursor .at) (s .pre .0 .0) (s .pre .0 .1) _
+            (past-word _ (a .text .now) (a .cursor .at) _ _ (ap (λ (k : Cursor). k .at) (c .before .before .before .before .before .before .before .before .before .before .before .before .before .before .before .before .before .before .before .moved .ensures) ∙ c .before .before .before .before .before .before .before .before .before .before .before .before .before .before .before .before .before .before .before .before .before .before .word .ensures .0)
+            (ap (λ (k : Cursor). k .at) (c .before .before .before .before .before .before .before .before .before .before .before .before .before .before .before .before .before .before .past-blanks .ensures)))
+            (sym (c .before .before .before .before .before .before .before .before .before .before .before .before .before .before .before .before .before .sees .ensures) ∙ not-false _ (c .before .before .before .before .before .before .before .before .before .before .before .before .before .before .before .before .if2 .left))),
+        s .pre .1 .0 .0,
+        ap length (row-clear (a .row .now) (s .pre .1 .0 .1)) ∙ length-pack bodyWords emptySet,
+      ),
+      met-ready _ _ _ x y (m .ensures),
     )
 
 returns-3 : tie.Need-returns-3
-returns-3 c =
-    let at-body = c .before .before .before .before .before .before .before .before in
-    let back = at-body .before .before .before .before .before .before .before .before .before .before .before .before .before in
-    let at-head = back .before .before .before in
-    let at-if2 = at-head .before .before .before .before .before .before in
-    let at-sees = at-if2 .before in
-    let at-past-blanks = at-sees .before in
-    let at-if1 = at-past-blanks .before in
-    let at-is-name = at-if1 .before in
-    let at-word = at-is-name .before in
-    let s = at-word .before .before .before .before .before .before .before .before in
+returns-3 c = let s = c .before .before .before .before .before .before .before .before .before .before .before .before .before .before .before .before .before .before .before .before .before .before .before .before .before .before .before .before .before .before .before .before .before .before .before .before .before .before in
     let a = s .args in
-    let h = at-head .head in
-    let b = at-body .body in
-    said-body (a .text .now) (a .cursor .at) _ (s .pre .1 .0) (s .pre .1 .1)
-    (sym (at-is-name .is-name .ensures (a .text .now) (at-word .word .ensures .0)) ∙ not-false _ (at-if1 .if1 .left))
-    (past-word (a .text .now) (a .cursor .at) _ _ (at-word .word .ensures .0) (ap (λ (k : Cursor). k .at) (at-past-blanks .past-blanks .ensures)))
-    (sym (at-sees .sees .ensures) ∙ not-false _ (at-if2 .if2 .left)) (a .n) (a .m) _ _ (a .spellings .now) (h .last .1 .1 .1 .1 .0) (h .last .1 .1 .1 .1 .1 .0)
-    (h .last .1 .1 .1 .1 .1 .1 .0) (a .heads .now) (h .last .1 .1 .1 .1 .1 .1 .1 .0) (a .bodies .now) (h .last .1 .1 .1 .1 .1 .1 .1 .1 .0) (h .ensures) _ _ _ _
-    (b .last .1 .1 .1 .0) (b .last .1 .1 .1 .1 .0) (b .last .1 .1 .1 .1 .1 .0) (b .last .1 .1 .1 .1 .1 .1 .0) (b .ensures)
+    let m = c .before .before .before .before .before .before .before .before .before .before .before .before .before .before .before .before .before .before .before .before .before .meet in
+    let b = c .before .before .before .before .before .before .before .before .body in
+    let x = lexiconOf (a .n) (a .spellings .now) (a .first .now) (a .prior .now) in
+    let y = lexiconOf (m .result .names) (m .last .1 .1 .1 .1 .0) (m .last .1 .1 .1 .1 .1 .0) (m .last .1 .1 .1 .1 .1 .1 .0) in
+    let z = lexiconOf (b .result .names) (b .last .1 .1 .1 .0) (b .last .1 .1 .1 .1 .0) (b .last .1 .1 .1 .1 .1 .0) in
+    let fold = letters (a .table .now) in (
+      b .ensures .0 .1 ∙ ap (λ (k : Cursor). k .line) (c .before .before .before .before .before .before .before .before .before .before .before .before .before .moved2 .ensures) ∙ ap (λ (k : Cursor). k .line) (c .before .before .before .before .before .before .before .before .before .before .before .before .before .before .before .before .before .before .before .before .before .before .before .before .before .before .before .past-blanks .ensures)
+          ∙ ap (λ (k : Cursor). k .line) (c .before .before .before .before .before .before .before .before .before .before .before .before .before .before .before .before .before .before .before .before .before .before .before .before .before .before .before .before .moved .ensures),
+      subst (λ (h : ℕ). Said fold (a .text .now) (a .cursor .at) x (b .result .fault) (b .result .cursor .at) (b .result .room) h z
+          (b .last .1 .1 .1 .1 .1 .1 .0)) (sym (b .ensures .0 .0))
+          (said-body _ (s .pre .1 .0 .0 .1) (a .text .now) (a .cursor .at) _ (s .pre .0 .0) (s .pre .0 .1)
+          (sym (c .before .before .before .before .before .before .before .before .before .before .before .before .before .before .before .before .before .before .before .before .before .before .before .before .before .before .before .before .before .before .is-name .ensures _ (a .text .now) (c .before .before .before .before .before .before .before .before .before .before .before .before .before .before .before .before .before .before .before .before .before .before .before .before .before .before .before .before .before .before .before .word .ensures .0)) ∙ not-false _ (c .before .before .before .before .before .before .before .before .before .before .before .before .before .before .before .before .before .before .before .before .before .before .before .before .before .before .before .before .before .if1 .left))
+          (past-word _ (a .text .now) (a .cursor .at) _ _ (ap (λ (k : Cursor). k .at) (c .before .before .before .before .before .before .before .before .before .before .before .before .before .before .before .before .before .before .before .before .before .before .before .before .before .before .before .before .moved .ensures) ∙ c .before .before .before .before .before .before .before .before .before .before .before .before .before .before .before .before .before .before .before .before .before .before .before .before .before .before .before .before .before .before .before .word .ensures .0)
+          (ap (λ (k : Cursor). k .at) (c .before .before .before .before .before .before .before .before .before .before .before .before .before .before .before .before .before .before .before .before .before .before .before .before .before .before .before .past-blanks .ensures)))
+          (sym (c .before .before .before .before .before .before .before .before .before .before .before .before .before .before .before .before .before .before .before .before .before .before .before .before .before .before .sees .ensures) ∙ not-false _ (c .before .before .before .before .before .before .before .before .before .before .before .before .before .before .before .before .before .before .before .before .before .before .before .before .before .if2 .left)) x _ _ y (m .ensures) _ _ _ z _ _
+          (row-clear (a .row .now) (s .pre .1 .0 .1))
+          (subst (λ (k : Cursor). Bodied fold (a .text .now) (k .at) (m .result .room) y (b .result .fault) (b .result .cursor .at) (b .result .room) z
+          (a .row .now) (b .last .1 .1 .1 .1 .1 .1 .0)) (c .before .before .before .before .before .before .before .before .before .before .before .before .before .moved2 .ensures) (b .ensures .1))),
+    )
 
 pub rule-spec : {M : Type 1} → statement M
 rule-spec =
@@ -104,14 +118,17 @@ rule-spec =
     (tie.spec
     (λ c κs. search needs)
     (λ c κs. search needs)
+    (λ c κs. search needs)
     returns
     (λ c κs. search needs)
     (λ c κs. search needs)
+    (λ c κs. search needs)
+    (λ c κs. search needs)
     returns-2
-    head-requires
-    add-t28
+    meet-requires
+    add-moved
+    (λ c κs. search needs)
     body-requires
-    (λ c. search needs)
     (λ c. search needs)
     (λ c. search needs)
     (λ c. search needs)

@@ -1,5 +1,6 @@
 -- `lexicon::find` meets its contract. The loop's invariant: no name from k on is the word, and the name before k is in its bucket. Assumes nothing.
 use Prim.Native.Nat.{_≤_}
+use Rattle.grammar.specs.Bytes.{letters}
 use Rattle.tables.specs.Areas.{namesIn}
 use Rattle.lexicon.specs.Index.{wordAt}
 use Rattle.lexicon.proofs.Chains.{Walk, hash-lt, widened, find-start, find-bound, find-hit, find-next, find-less, find-miss}
@@ -9,7 +10,7 @@ use Rattle.lexicon.proofs.find.Statement.{statement}
 use Rattle.lexicon.proofs.find.Tie as tie
 
 abbrev Inv-loop : tie.InvT-loop
-Inv-loop spellings n first prior text table at len bucket k₀ k = (k ≤ n) × Walk (namesIn spellings n) (wordAt text at len) k
+Inv-loop spellings n first prior text table at len bucket k₀ k = (k ≤ n) × Walk (namesIn spellings n) (wordAt (letters table) text at len) k
 
 abbrev μ-loop : tie.MeasureT-loop
 μ-loop spellings n first prior text table at len bucket k₀ k = k

@@ -4,6 +4,7 @@ use mathlib.Core.Path.{_≡_}
 use lib.ListN.{length}
 use lib.Seq.{paste, paste-zero}
 use Rattle.limits.specs.Book.{nameBytes}
+use Rattle.grammar.specs.Bytes.{letters}
 use Rattle.lexicon.specs.Index.{wordAt}
 use Rattle.lexicon.proofs.Spelling.{name-fits, write-on, write-all}
 use borrow.Author.Needs.{needs}
@@ -12,7 +13,7 @@ use Rattle.lexicon.proofs.write_name.Tie as tie
 
 abbrev Inv-loop : tie.InvT-loop
 Inv-loop spellings₀ a text table at len row i₀ spellings i =
-    (i ≤ len) × (len ≤ nameBytes) × (length spellings ≡ length spellings₀) × (spellings ≡ paste spellings₀ row (wordAt text at len) i)
+    (i ≤ len) × (len ≤ nameBytes) × (length spellings ≡ length spellings₀) × (spellings ≡ paste spellings₀ row (wordAt (letters table) text at len) i)
 
 abbrev μ-loop : tie.MeasureT-loop
 μ-loop spellings₀ a text table at len row i₀ spellings i = len - i
@@ -22,9 +23,9 @@ loop-holds c =
     let s = c .before .before .before .before in
     let a = s .args in (
       search needs,
-      name-fits _ _ _ (s .pre .2),
+      name-fits _ (s .pre .3 .1) _ _ _ (s .pre .2),
       search needs,
-      paste-zero (a .spellings .now) (c .name-at .result) (wordAt (a .text .now) (a .at) (a .len)),
+      paste-zero (a .spellings .now) (c .name-at .result) (wordAt (letters (a .table .now)) (a .text .now) (a .at) (a .len)),
     )
 
 loop-again : tie.Need-loop-again Inv-loop μ-loop
@@ -34,14 +35,14 @@ loop-again c =
       search needs,
       search needs,
       search needs,
-      write-on _ _ _ _ _ (p .2) (search needs) _ _ _ (c .before .before .loop-test .taken) (c .fold .ensures) (l .loop .inv .3),
+      write-on _ (p .3 .1) _ _ _ _ _ (p .2) (search needs) _ _ _ (c .before .before .loop-test .taken) (c .fold .ensures) (l .loop .inv .3),
     )
 
 returns : tie.Need-returns Inv-loop μ-loop
 returns c =
     let l = c .before .before .before .before .before in
     let p = l .before .before .before .before .before .pre in
-    write-all _ _ _ _ _ (p .2) (search needs) _ _ _ _ (l .before .name-at .ensures) (l .loop .inv .0) (c .before .before .before .before .loop-test .left)
+    write-all _ (p .3 .1) _ _ _ _ _ (p .2) (search needs) _ _ _ _ (l .before .name-at .ensures) (l .loop .inv .0) (c .before .before .before .before .loop-test .left)
     (l .loop .inv .3) (c .before .before .clear-tail8 .ensures)
 
 pub write-name-spec : {M : Type 1} → statement M

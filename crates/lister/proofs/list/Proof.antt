@@ -12,8 +12,8 @@ solve-in-requires c κs = λ t. (zeros-clear rowArea, zeros-clear rowArea, zeros
 
 returns : tie.Need-returns
 returns c =
-    list-seen folded _ _ _ _
-    (c .before .before .before .before .before .before .before .before .before .solve-in .ensures)
+    let s = c .before .before .before .before .before .before .before .before .before .solve-in in
+    (list-seen folded _ _ _ _ (s .ensures .0), s .ensures .1)
 
 pub list-spec : {M : Type 1} → statement M
 list-spec =

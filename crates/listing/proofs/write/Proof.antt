@@ -1,6 +1,6 @@
 -- `listing::write` meets its contract. The head line, the held names, and zeros. Assumes nothing.
 use Rattle.systems.specs.Rounds.{modelIn}
-use Rattle.listing.proofs.Whole.{head-room, names-room, end-fits, area-long, listing-done}
+use Rattle.listing.proofs.Whole.{head-room, names-room, area-fits, listing-done}
 use borrow.Author.Needs.{needs}
 use Rattle.listing.proofs.write.Statement.{statement}
 use Rattle.listing.proofs.write.Tie as tie
@@ -10,18 +10,20 @@ put-head-requires c κs =
     let w = c .before in
     let s = w .before .before .before .before in
     let a = s .args in
-    head-room (a .spellings .now) (a .n) (modelIn (a .model .now)) (a .folds) (a .rounds) _ (a .listing .now) (s .pre .0) (s .pre .3) (s .pre .4)
-    (s .pre .5) (w .count-held .ensures)
+    let p = s .pre in
+    head-room (a .spellings .now) (a .n) (modelIn (a .model .now)) (a .folds) (a .rounds) _ (a .listing .now)
+    (p .0) (p .3) (p .4) (p .5) (w .count-held .ensures)
 
 put-names-requires : tie.Need-put-names-requires
 put-names-requires c κs =
     let x = c .before .before .before in
     let w = x .before .before in
     let s = w .before .before .before .before in
-    let a = s .args in (
-      (s .pre .0, s .pre .1, s .pre .2),
-      names-room (a .spellings .now) (a .n) (modelIn (a .model .now)) (a .folds) (a .rounds) _ (a .listing .now) (s .pre .0) (s .pre .3) (s .pre .4)
-          (s .pre .5) (w .count-held .ensures) _ _ (x .put-head .ensures .1) (x .put-head .ensures .0),
+    let a = s .args in
+    let p = s .pre in (
+      (p .0, p .1, p .2),
+      names-room (a .spellings .now) (a .n) (modelIn (a .model .now)) (a .folds) (a .rounds) _ (a .listing .now)
+          (p .0) (p .3) (p .4) (p .5) (w .count-held .ensures) _ _ (x .put-head .ensures .1) (x .put-head .ensures .0),
     )
 
 clear-tail8-requires : tie.Need-clear-tail8-requires
@@ -30,14 +32,11 @@ clear-tail8-requires c κs =
     let x = y .before .before .before .before in
     let w = x .before .before in
     let s = w .before .before .before .before in
-    let a = s .args in (
-      end-fits (a .spellings .now) (a .n) (modelIn (a .model .now)) (a .folds) (a .rounds) _ (a .listing .now) (s .pre .0) (s .pre .3) (s .pre .4)
-          (s .pre .5) (w .count-held .ensures) _ _ (x .put-head .ensures .1) (x .put-head .ensures .0)
-          _ _ (y .put-names .ensures .1) (y .put-names .ensures .0),
-      area-long (a .spellings .now) (a .n) (modelIn (a .model .now)) (a .folds) (a .rounds) _ (a .listing .now) (s .pre .0) (s .pre .3) (s .pre .4)
-          (s .pre .5) (w .count-held .ensures) _ _ (x .put-head .ensures .1) (x .put-head .ensures .0)
-          _ _ (y .put-names .ensures .1) (y .put-names .ensures .0),
-    )
+    let a = s .args in
+    let p = s .pre in
+    area-fits (a .spellings .now) (a .n) (modelIn (a .model .now)) (a .folds) (a .rounds) _ (a .listing .now)
+    (p .0) (p .3) (p .4) (p .5) (w .count-held .ensures) _ _ (x .put-head .ensures .1) (x .put-head .ensures .0)
+    _ _ (y .put-names .ensures .1) (y .put-names .ensures .0)
 
 returns : tie.Need-returns
 returns c =
@@ -46,12 +45,11 @@ returns c =
     let x = y .before .before .before .before in
     let w = x .before .before in
     let s = w .before .before .before .before in
-    let a = s .args in (
-      w .count-held .ensures,
-      listing-done (a .spellings .now) (a .n) (modelIn (a .model .now)) (a .folds) (a .rounds) _ (a .listing .now) (s .pre .0) (s .pre .3) (s .pre .4)
-          (s .pre .5) (w .count-held .ensures) _ _ (x .put-head .ensures .1) (x .put-head .ensures .0)
-          _ _ (y .put-names .ensures .1) (y .put-names .ensures .0) _ (z .clear-tail8 .ensures),
-    )
+    let a = s .args in
+    let p = s .pre in
+    listing-done (a .spellings .now) (a .n) (modelIn (a .model .now)) (a .folds) (a .rounds) _ (a .listing .now)
+    (p .0) (p .3) (p .4) (p .5) (w .count-held .ensures) _ _ (x .put-head .ensures .1) (x .put-head .ensures .0)
+    _ _ (y .put-names .ensures .1) (y .put-names .ensures .0) _ (z .clear-tail8 .ensures)
 
 pub write-spec : {M : Type 1} → statement M
 write-spec =

@@ -10,14 +10,17 @@ put-field-requires : tie.Need-put-field-requires
 put-field-requires c κs =
     let s = c .before .before .before in
     let a = s .args in
-    part-room _ (a .text .now) (s .pre) _ _ _ _ (before-names (a .n) (a .held) (a .folds) (a .rounds) (a .text .now) (s .pre))
+    let l = before-names (a .n) (a .held) (a .folds) (a .rounds) (a .text .now) (s .pre) in
+    part-room l
 
 put-field-requires-2 : tie.Need-put-field-requires-2
 put-field-requires-2 c κs =
     let w = c .before .before .before .before in
     let s = w .before .before .before .before in
     let a = s .args in
-    part-room _ (a .text .now) (s .pre) _ _ _ _ (after-names (a .n) (a .held) (a .folds) (a .rounds) (a .text .now) (s .pre) _ _ (w .put-field .ensures .1) (w .put-field .ensures .0))
+    let l = before-names (a .n) (a .held) (a .folds) (a .rounds) (a .text .now) (s .pre) in
+    let l₁ = after-names _ _ _ _ l (w .put-field .ensures .1) (w .put-field .ensures .0) in
+    part-room l₁
 
 put-field-requires-3 : tie.Need-put-field-requires-3
 put-field-requires-3 c κs =
@@ -25,7 +28,10 @@ put-field-requires-3 c κs =
     let w = x .before .before .before .before .before in
     let s = w .before .before .before .before in
     let a = s .args in
-    part-room _ (a .text .now) (s .pre) _ _ _ _ (after-held (a .n) (a .held) (a .folds) (a .rounds) (a .text .now) (s .pre) _ _ (w .put-field .ensures .1) (w .put-field .ensures .0) _ _ (x .put-field2 .ensures .1) (x .put-field2 .ensures .0))
+    let l = before-names (a .n) (a .held) (a .folds) (a .rounds) (a .text .now) (s .pre) in
+    let l₁ = after-names _ _ _ _ l (w .put-field .ensures .1) (w .put-field .ensures .0) in
+    let l₂ = after-held _ _ _ _ l₁ (x .put-field2 .ensures .1) (x .put-field2 .ensures .0) in
+    part-room l₂
 
 put-field-requires-4 : tie.Need-put-field-requires-4
 put-field-requires-4 c κs =
@@ -34,7 +40,11 @@ put-field-requires-4 c κs =
     let w = x .before .before .before .before .before in
     let s = w .before .before .before .before in
     let a = s .args in
-    part-room _ (a .text .now) (s .pre) _ _ _ _ (after-folds (a .n) (a .held) (a .folds) (a .rounds) (a .text .now) (s .pre) _ _ (w .put-field .ensures .1) (w .put-field .ensures .0) _ _ (x .put-field2 .ensures .1) (x .put-field2 .ensures .0) _ _ (y .put-field3 .ensures .1) (y .put-field3 .ensures .0))
+    let l = before-names (a .n) (a .held) (a .folds) (a .rounds) (a .text .now) (s .pre) in
+    let l₁ = after-names _ _ _ _ l (w .put-field .ensures .1) (w .put-field .ensures .0) in
+    let l₂ = after-held _ _ _ _ l₁ (x .put-field2 .ensures .1) (x .put-field2 .ensures .0) in
+    let l₃ = after-folds _ _ _ _ l₂ (y .put-field3 .ensures .1) (y .put-field3 .ensures .0) in
+    part-room l₃
 
 slice-write-text : tie.Need-slice-write-text
 slice-write-text c =
@@ -44,7 +54,12 @@ slice-write-text c =
     let w = x .before .before .before .before .before in
     let s = w .before .before .before .before in
     let a = s .args in
-    end-slot _ (a .text .now) (s .pre) _ _ (after-rounds (a .n) (a .held) (a .folds) (a .rounds) (a .text .now) (s .pre) _ _ (w .put-field .ensures .1) (w .put-field .ensures .0) _ _ (x .put-field2 .ensures .1) (x .put-field2 .ensures .0) _ _ (y .put-field3 .ensures .1) (y .put-field3 .ensures .0) _ _ (z .put-field4 .ensures .1) (z .put-field4 .ensures .0))
+    let l = before-names (a .n) (a .held) (a .folds) (a .rounds) (a .text .now) (s .pre) in
+    let l₁ = after-names _ _ _ _ l (w .put-field .ensures .1) (w .put-field .ensures .0) in
+    let l₂ = after-held _ _ _ _ l₁ (x .put-field2 .ensures .1) (x .put-field2 .ensures .0) in
+    let l₃ = after-folds _ _ _ _ l₂ (y .put-field3 .ensures .1) (y .put-field3 .ensures .0) in
+    let l₄ = after-rounds _ _ _ _ l₃ (z .put-field4 .ensures .1) (z .put-field4 .ensures .0) in
+    end-slot l₄
 
 add-result : tie.Need-add-result
 add-result c =
@@ -54,7 +69,12 @@ add-result c =
     let w = x .before .before .before .before .before in
     let s = w .before .before .before .before in
     let a = s .args in
-    omega (arith, s .good, line-next _ (a .text .now) (s .pre) _ _ (after-rounds (a .n) (a .held) (a .folds) (a .rounds) (a .text .now) (s .pre) _ _ (w .put-field .ensures .1) (w .put-field .ensures .0) _ _ (x .put-field2 .ensures .1) (x .put-field2 .ensures .0) _ _ (y .put-field3 .ensures .1) (y .put-field3 .ensures .0) _ _ (z .put-field4 .ensures .1) (z .put-field4 .ensures .0)))
+    let l = before-names (a .n) (a .held) (a .folds) (a .rounds) (a .text .now) (s .pre) in
+    let l₁ = after-names _ _ _ _ l (w .put-field .ensures .1) (w .put-field .ensures .0) in
+    let l₂ = after-held _ _ _ _ l₁ (x .put-field2 .ensures .1) (x .put-field2 .ensures .0) in
+    let l₃ = after-folds _ _ _ _ l₂ (y .put-field3 .ensures .1) (y .put-field3 .ensures .0) in
+    let l₄ = after-rounds _ _ _ _ l₃ (z .put-field4 .ensures .1) (z .put-field4 .ensures .0) in
+    omega (arith, s .good, line-next l₄)
 
 same-length : tie.Need-same-length
 same-length c =
@@ -64,7 +84,12 @@ same-length c =
     let w = x .before .before .before .before .before in
     let s = w .before .before .before .before in
     let a = s .args in
-    line-length _ (a .text .now) (s .pre) _ _ (after-rounds (a .n) (a .held) (a .folds) (a .rounds) (a .text .now) (s .pre) _ _ (w .put-field .ensures .1) (w .put-field .ensures .0) _ _ (x .put-field2 .ensures .1) (x .put-field2 .ensures .0) _ _ (y .put-field3 .ensures .1) (y .put-field3 .ensures .0) _ _ (z .put-field4 .ensures .1) (z .put-field4 .ensures .0))
+    let l = before-names (a .n) (a .held) (a .folds) (a .rounds) (a .text .now) (s .pre) in
+    let l₁ = after-names _ _ _ _ l (w .put-field .ensures .1) (w .put-field .ensures .0) in
+    let l₂ = after-held _ _ _ _ l₁ (x .put-field2 .ensures .1) (x .put-field2 .ensures .0) in
+    let l₃ = after-folds _ _ _ _ l₂ (y .put-field3 .ensures .1) (y .put-field3 .ensures .0) in
+    let l₄ = after-rounds _ _ _ _ l₃ (z .put-field4 .ensures .1) (z .put-field4 .ensures .0) in
+    line-length l₄
 
 returns : tie.Need-returns
 returns c =
@@ -74,8 +99,12 @@ returns c =
     let w = x .before .before .before .before .before in
     let s = w .before .before .before .before in
     let a = s .args in
-    let end = (after-rounds (a .n) (a .held) (a .folds) (a .rounds) (a .text .now) (s .pre) _ _ (w .put-field .ensures .1) (w .put-field .ensures .0) _ _ (x .put-field2 .ensures .1) (x .put-field2 .ensures .0) _ _ (y .put-field3 .ensures .1) (y .put-field3 .ensures .0) _ _ (z .put-field4 .ensures .1) (z .put-field4 .ensures .0)) in
-    (line-next _ (a .text .now) (s .pre) _ _ end, line-put _ (a .text .now) (s .pre) _ _ end)
+    let l = before-names (a .n) (a .held) (a .folds) (a .rounds) (a .text .now) (s .pre) in
+    let l₁ = after-names _ _ _ _ l (w .put-field .ensures .1) (w .put-field .ensures .0) in
+    let l₂ = after-held _ _ _ _ l₁ (x .put-field2 .ensures .1) (x .put-field2 .ensures .0) in
+    let l₃ = after-folds _ _ _ _ l₂ (y .put-field3 .ensures .1) (y .put-field3 .ensures .0) in
+    let l₄ = after-rounds _ _ _ _ l₃ (z .put-field4 .ensures .1) (z .put-field4 .ensures .0) in
+    (line-next l₄, line-put l₄)
 
 pub put-head-spec : {M : Type 1} → statement M
 put-head-spec =

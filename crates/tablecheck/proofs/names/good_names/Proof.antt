@@ -4,7 +4,7 @@ use mathlib.Core.Path.{_≡_, sym, _∙_}
 use mathlib.Core.Bool.{true}
 use Prim.Native.Nat.{_-_, _≤_}
 use Rattle.sets.specs.Set.{every}
-use Rattle.grammar.specs.Bytes.{folded}
+use Rattle.grammar.specs.Bytes.{letters}
 use Rattle.tables.specs.Writing.{goodName}
 use Rattle.sets.proofs.Every.{every-none, every-on, every-off, every-end}
 use borrow.Author.Needs.{needs}
@@ -12,7 +12,7 @@ use Rattle.tablecheck.proofs.names.good_names.Statement.{statement}
 use Rattle.tablecheck.proofs.names.good_names.Tie as tie
 
 abbrev Inv-loop : tie.InvT-loop
-Inv-loop spellings table n a₀ a = (a ≤ n) × (every a (goodName folded spellings) ≡ true)
+Inv-loop spellings table n a₀ a = (a ≤ n) × (every a (goodName (letters table) spellings) ≡ true)
 
 abbrev μ-loop : tie.MeasureT-loop
 μ-loop spellings table n a₀ a = n - a

@@ -7,20 +7,21 @@ use native.Mathlib.Nat.{mod-lt}
 use native.Mathlib.Omega.{arith}
 use lib.ListN.{length, drop}
 use borrow.Author.Needs.{needs}
-use Rattle.grammar.specs.Bytes.{nameByte, folded}
+use Rattle.grammar.specs.Bytes.{nameByte, letters}
 use Rattle.grammar.specs.Lines.{span}
 use Rattle.grammar.proofs.Spans.{span-stop, span-past}
 use Rattle.scan.specs.Hash.{buckets, hashFrom, hashOf}
+use Rattle.scan.specs.Places.{pastAt, nameFolded}
 use Rattle.scan.proofs.Scans.{on}
 use Rattle.scan.proofs.Steps.{no-name, of-name}
-use Rattle.scan.proofs.Hashing.{spelt, hashes, hash-on, hash-end}
+use Rattle.scan.proofs.Hashing.{hashes, hash-on, hash-end}
 use Rattle.scan.proofs.cursor.Cursor.word.Statement.{statement}
 use Rattle.scan.proofs.cursor.Cursor.word.Tie as tie
 
 abbrev Inv-loop : tie.InvT-loop
 Inv-loop text table i₀ h₀ i h =
-    (i + span (nameByte folded) (drop i text) ≡ i₀ + span (nameByte folded) (drop i₀ text))
-    × (h < hashes) × (hashFrom (h % buckets) (spelt text i) ≡ hashOf (spelt text i₀))
+    (pastAt (nameByte (letters table)) text i ≡ pastAt (nameByte (letters table)) text i₀)
+    × (h < hashes) × (hashFrom (h % buckets) (nameFolded (letters table) text i) ≡ hashOf (nameFolded (letters table) text i₀))
 
 abbrev μ-loop : tie.MeasureT-loop
 μ-loop text table i₀ h₀ i h = length text - i
@@ -31,27 +32,31 @@ loop-holds c = (refl, omega arith, refl)
 loop-again : tie.Need-loop-again Inv-loop μ-loop
 loop-again c =
     let l = c .before .before .before .before in
-    let t = l .before .before .before .args .text .now in
+    let a = l .before .before .before .args in
+    let t = a .text .now in
+    let fold = letters (a .table .now) in
     let f = c .before .fold in
     let i = l .loop .i in
     let more = c .before .before .before .loop-test .taken in
-    let name = of-name _ _ (f .ensures) (c .if1 .left) in (
-      on (nameByte folded) t i _ more name (l .loop .inv .0),
+    let name = of-name fold _ _ (f .ensures) (c .if1 .left) in (
+      on (nameByte fold) t i _ more name (l .loop .inv .0),
       mod-lt _ (omega arith),
-      hash-on t i _ _ (l .loop .inv .2) _ more (f .ensures) name,
+      hash-on fold t i _ _ (l .loop .inv .2) _ more (f .ensures) name,
     )
 
 -- past the text or at a byte of no name, the run is at its end
 returns : tie.Need-returns Inv-loop μ-loop
 returns c =
     let l = c .before in
-    let t = l .before .before .before .args .text .now in
+    let a = l .before .before .before .args in
+    let t = a .text .now in
+    let fold = letters (a .table .now) in
     let i = l .loop .i in
-    let done : span (nameByte folded) (drop i t) ≡ 0 =
-    ⊎-elim (λ w. span-past (nameByte folded) t i (w .left))
-    (λ w. span-stop (nameByte folded) t i (w .0 .taken) (no-name _ _ (w .2 .ensures) (w .3 .taken))) (c .loop-test .came) in (
+    let done : span (nameByte fold) (drop i t) ≡ 0 =
+    ⊎-elim (λ w. span-past (nameByte fold) t i (w .left))
+    (λ w. span-stop (nameByte fold) t i (w .0 .taken) (no-name fold _ _ (w .2 .ensures) (w .3 .taken))) (c .loop-test .came) in (
       omega arith,
-      hash-end t i _ _ (l .loop .inv .2) done,
+      hash-end fold t i _ _ (l .loop .inv .2) done,
     )
 
 pub word-spec : {M : Type 1} → statement M

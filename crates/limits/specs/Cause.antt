@@ -1,0 +1,55 @@
+-- "Refused" of document 01: which numbers there are, as lists. A new cause is one entry of one list here; the others follow.
+-- Assumes nothing.
+use mathlib.Core.Path.{_≡_}
+use mathlib.Core.Logic.{_⊎_}
+use mathlib.Core.List.{List, [], _∷_, _++_}
+use Prim.Native.Nat.{ℕ}
+
+-- k is one of ks
+unfoldable pub OneOf : ℕ → List ℕ → Type 0
+OneOf k [] = ⊥
+OneOf k (x ∷ xs) = (k ≡ x) ⊎ OneOf k xs
+
+-- a line of no listed form
+abbrev pub faultCauses : List ℕ
+faultCauses = 5 ∷ []
+
+-- a rule that does not fit: a rule too many, a name too many
+abbrev pub fullCauses : List ℕ
+fullCauses = 7 ∷ 6 ∷ []
+
+-- the causes of a line, which come with its number
+abbrev pub lineCauses : List ℕ
+lineCauses = faultCauses ++ fullCauses
+
+-- the causes of a text as a whole, its length aside: no mark, no last line end
+abbrev pub wholeCauses : List ℕ
+wholeCauses = 3 ∷ 4 ∷ []
+
+-- the causes of a text, its length aside
+abbrev pub textCauses : List ℕ
+textCauses = wholeCauses ++ lineCauses
+
+-- "all as it was", for the reader: an area too short, a text too long, the text as a whole
+abbrev pub keptCauses : List ℕ
+keptCauses = 1 ∷ 2 ∷ wholeCauses
+
+-- the reader's: those, and the causes of a line
+abbrev pub readCauses : List ℕ
+readCauses = keptCauses ++ lineCauses
+
+-- "all as it was", for the solver: over 8 folds too
+abbrev pub solveKeptCauses : List ℕ
+solveKeptCauses = 9 ∷ keptCauses
+
+-- "names, rules as read": over 256 atoms
+abbrev pub atomCauses : List ℕ
+atomCauses = 8 ∷ []
+
+-- the solver's: all of these, and the causes of a line
+abbrev pub solveCauses : List ℕ
+solveCauses = (solveKeptCauses ++ lineCauses) ++ atomCauses
+
+-- the writer's: an area too short, tables ill formed, a written text too long
+abbrev pub writeCauses : List ℕ
+writeCauses = 1 ∷ 10 ∷ 12 ∷ []

@@ -1,0 +1,97 @@
+-- What lies past the stated sizes of the solver's areas is neither judged nor touched.
+-- Assumes nothing.
+use mathlib.Core.Path.{_≡_, refl, ap, ap₂}
+use mathlib.Core.Bool.{_||_}
+use mathlib.Core.List.{List, [], _++_, map}
+use Prim.Native.Nat.{ℕ}
+use native.Mathlib.Omega.{arith}
+use lib.ListN.{take, drop}
+use Rattle.limits.specs.Book.{rowWords, rowArea, listingBytes}
+use Rattle.sets.specs.Set.{Set}
+use Rattle.words.specs.Row.{pack}
+use Rattle.words.proofs.Rows.{length-pack}
+use Rattle.program.specs.System.{System, folded, roundsOf, heldBy}
+use Rattle.program.specs.Standard.{standard}
+use Rattle.grammar.specs.Grammar.{Clause, joined}
+use Rattle.tables.specs.Numbering.{namesOf, numbered, programOf}
+use Rattle.tables.specs.Reading.{Reading, read, refused, bookOf}
+use Rattle.tables.specs.Areas.{Areas, Outcome, tablesOf, refusal}
+use Rattle.tables.specs.Sizes.{statedTables, tablesWithRest}
+use Rattle.tables.proofs.Sizes.{both-parts, short-first, begun-first, filled-first, pick-first, tables-short, tables-both, tables-filled, refusal-first}
+use Rattle.systems.specs.Rows.{packed, below}
+use Rattle.systems.specs.Rounds.{withModel}
+use Rattle.solving.specs.Listing.{listingLines, listed}
+use Rattle.solving.specs.Solve.{SolveAreas, SolveOutcome, shortAreas, refusalAnswer, solveRefusal, answerOf, solvedAreas, solveRead, solveCall}
+use Rattle.solving.specs.Sizes.{cutAreas, areasWithRest, solveWithRest, SolveSizes}
+
+-- a set put into the model area
+model-first : (f : Set) (model : List ℕ) → withModel f model ≡ withModel f (take rowWords model) ++ drop rowWords model
+unfolding withModel
+model-first f model = begun-first rowWords (pack rowWords f) model (omega (arith, length-pack rowWords f))
+
+module _ (old : SolveAreas) where
+  -- the tests of the lengths
+  areas-short : shortAreas old ≡ shortAreas (cutAreas old)
+  unfolding shortAreas
+  areas-short =
+      ap₂ _||_ (tables-short (old .tables))
+      (ap₂ _||_ (short-first rowArea (old .all))
+      (ap₂ _||_ (short-first rowArea (old .any))
+      (ap₂ _||_ (short-first rowArea (old .spare)) (ap₂ _||_ (short-first rowWords (old .model)) (short-first listingBytes (old .listing))))))
+
+  -- a refusal
+  refused-first : (number line : ℕ) (left cut : Areas) → left ≡ tablesWithRest (old .tables) cut
+      → solveRefusal number line left old ≡ solveWithRest old (solveRefusal number line cut (cutAreas old))
+  refused-first number line left cut e i =
+      record {
+        answer = refusalAnswer number line;
+        areas =
+            record {
+              tables = e i;
+              all = both-parts rowArea (old .all) i;
+              any = both-parts rowArea (old .any) i;
+              spare = both-parts rowArea (old .spare) i;
+              model = both-parts rowWords (old .model) i;
+              listing = both-parts listingBytes (old .listing) i;
+            };
+      }
+
+  -- the areas after a book
+  book-first : (cs : List Clause) → tablesOf cs (old .tables) ≡ tablesWithRest (old .tables) (tablesOf cs (statedTables (old .tables)))
+  unfolding tablesOf
+  book-first cs = tables-filled (old .tables) (namesOf cs) (map (numbered (namesOf cs)) cs)
+
+  solved-first : (cs : List Clause) (k : ℕ) → solvedAreas cs k old ≡ areasWithRest old (solvedAreas cs k (cutAreas old))
+  unfolding solvedAreas listed
+  solved-first cs k i =
+      let s : System = folded k (standard (programOf cs)) in
+      record {
+        tables = book-first cs i;
+        all = filled-first rowArea (packed rowWords (s .atoms) (s .all)) (old .all) i;
+        any = filled-first rowArea (packed rowWords (s .atoms) (s .any)) (old .any) i;
+        spare = filled-first rowArea [] (old .spare) i;
+        model = model-first (below (s .atoms) (heldBy s)) (old .model) i;
+        listing = filled-first listingBytes (joined (listingLines (namesOf cs) (heldBy s) k (roundsOf s))) (old .listing) i;
+      }
+
+  -- what a text comes to
+  read-first : (x : Reading) (k : ℕ) → solveRead x k old ≡ solveWithRest old (solveRead x k (cutAreas old))
+  unfolding solveRead
+  read-first (refused a b) k =
+      refused-first a b (refusal a b (old .tables) .areas) (refusal a b (statedTables (old .tables)) .areas)
+      (ap (λ (x : Outcome). x .areas) (refusal-first (old .tables) a b))
+  read-first (read cs) k =
+      pick-first (solveWithRest old) refl
+      (λ t. refused-first 8 0 (tablesOf cs (old .tables)) (tablesOf cs (statedTables (old .tables))) (book-first cs))
+      (ap (λ (o : SolveAreas). record { answer = answerOf (programOf cs) k; areas = o }) (solved-first cs k))
+
+-- the call
+pub solve-sizes : (fold : ℕ → ℕ) → SolveSizes fold
+unfolding solveCall
+solve-sizes fold t k old =
+    let rest : SolveOutcome → SolveOutcome = solveWithRest old in
+    let refused : (n : ℕ) → solveRefusal n 0 (old .tables) old ≡ rest (solveRefusal n 0 (statedTables (old .tables)) (cutAreas old)) =
+    λ n. refused-first old n 0 (old .tables) (statedTables (old .tables)) (tables-both (old .tables))
+    in
+    pick-first rest (areas-short old) (λ s. refused 1)
+    (pick-first rest refl (λ s. refused 2) (pick-first rest refl (λ s. refused 9) (read-first old (bookOf fold t) k)))
