@@ -5,10 +5,10 @@ use Prim.Native.Nat.{ℕ, _+_, _<_, _≤_}
 use native.Mathlib.Numerals.{add-one}
 use lib.ListN.{length, getD, drop, drop-of-length-le}
 use lib.Seq.{drop-cons}
-use Rattle.checksum.specs.Total.{joined, onward}
+use Rattle.checksum.specs.Total.{mixed, onward}
 
 -- one entry more
-pub onward-more : (xs : List ℕ) (s t i v : ℕ) → i < length xs → t ≡ joined s (getD xs i 0) → onward s (drop i xs) ≡ v
+pub onward-more : (xs : List ℕ) (s t i v : ℕ) → i < length xs → t ≡ mixed s (getD xs i 0) → onward s (drop i xs) ≡ v
     → onward t (drop (i + 1) xs) ≡ v
 unfolding onward
 onward-more xs s t i v h e f =

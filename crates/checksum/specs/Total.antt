@@ -12,13 +12,13 @@ abbrev pub digit : ℕ → ℕ → ℕ
 digit s x = (s * 31 + x) % modulus
 
 -- the checksum s with the entry x: its parts to the base of the modulus, the lowest first
-unfoldable pub joined : ℕ → ℕ → ℕ
-joined s x = digit (digit (digit (s % modulus) (x % modulus)) (x / modulus % modulus)) (x / modulus / modulus)
+unfoldable pub mixed : ℕ → ℕ → ℕ
+mixed s x = digit (digit (digit (s % modulus) (x % modulus)) (x / modulus % modulus)) (x / modulus / modulus)
 
 -- the checksum of the entries after s
 unfoldable pub onward : ℕ → List ℕ → ℕ
 onward s [] = s
-onward s (x ∷ xs) = onward (joined s x) xs
+onward s (x ∷ xs) = onward (mixed s x) xs
 
 -- the checksum of an area
 abbrev pub total : List ℕ → ℕ

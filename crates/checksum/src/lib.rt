@@ -1,12 +1,12 @@
 // A checksum of an area, so that a test program can print what a call left in every entry of it. The three widths have the same text.
 ghost use mathlib.Core.Path.{_≡_};
-ghost use Rattle.checksum.specs.Total.{joined, total};
+ghost use Rattle.checksum.specs.Total.{mixed, total};
 
 const MODULUS: u64 = 65521;
 
 // The checksum s with the entry x joined to it.
 fn join(s: u64, x: u64) -> u64
-    ensures { λ r. ⌜ r ≡ joined s x ⌝ }
+    ensures { λ r. ⌜ r ≡ mixed s x ⌝ }
 {
     let a = (s % MODULUS * 31 + x % MODULUS) % MODULUS;
     let b = (a * 31 + x / MODULUS % MODULUS) % MODULUS;

@@ -17,7 +17,7 @@ use Rattle.grammar.specs.Lines.{span, run, past, wordsOf, isName, allNames, sta
 use Rattle.grammar.proofs.Spans.{all-run, past-past}
 use Rattle.grammar.proofs.Words.{blank-end, name-end, uncolon, words-nil, words-past, names-nil, words-fault, words-sound, words-more}
 use Rattle.scan.specs.Places.{pastAt, nameRun}
-use Rattle.clause.specs.Line.{Closed, lineAt, headAt, wordsAt, unblank, unword, faultOf}
+use Rattle.clause.specs.Line.{LineEnds, lineAt, formFrom, wordsAt, unblank, unword, faultOf}
 use Rattle.clause.proofs.Places.{run-size, starts-eq, closed-past, line-past, run-line, end-past, sees-line, sees-end, end-here, sees-more, closed-next}
 use Rattle.clause.proofs.Places.{line-next, end-next, in-text}
 
@@ -66,7 +66,7 @@ Trim t i = past blank (lineAt t i) ≡ lineAt t i
 
 -- The words from place i one after another: at place j the words ds are passed.
 pub record Walk (fold : ℕ → ℕ) (t : Bytes) (i j : ℕ) (ds : List Bytes) : Type 0 where
-  pub closed : Closed t j
+  pub closed : LineEnds t j
   pub trim : Trim t j
   pub ends : pastAt notEnd t j ≡ pastAt notEnd t i
   pub tells : allNames fold (wordsAt t j) ≡ allNames fold (wordsAt t i)
@@ -78,22 +78,22 @@ module _ (fold : ℕ → ℕ) (law : Folding fold) where
   end-name = name-end fold law
 
   -- Places in a line that has its end.
-  module _ (t : Bytes) (i : ℕ) (k : Closed t i) where
+  module _ (t : Bytes) (i : ℕ) (k : LineEnds t i) where
     -- the line past its blanks
     pub line-unblank : lineAt t (unblank t i) ≡ past blank (lineAt t i)
     line-unblank = line-past t i k blank blank-end
 
-    pub closed-unblank : Closed t (unblank t i)
+    pub closed-unblank : LineEnds t (unblank t i)
     closed-unblank = closed-past t i k blank blank-end
 
     pub end-unblank : pastAt notEnd t (unblank t i) ≡ pastAt notEnd t i
     end-unblank = end-past t i k blank blank-end
 
     -- and past its first run of name bytes too
-    after-word : Closed t (pastAt (nameByte fold) t i)
+    after-word : LineEnds t (pastAt (nameByte fold) t i)
     after-word = closed-past t i k (nameByte fold) end-name
 
-    closed-unword : Closed t (unword fold t i)
+    closed-unword : LineEnds t (unword fold t i)
     closed-unword = closed-past t (pastAt (nameByte fold) t i) after-word blank blank-end
 
     line-unword : lineAt t (unword fold t i) ≡ past blank (past (nameByte fold) (lineAt t i))
@@ -134,24 +134,24 @@ module _ (fold : ℕ → ℕ) (law : Folding fold) where
   picked false x c e = let z : _≡_ {A = ℕ} 0 1 = cc in absurd (omega arith)
 
   -- a line whose head should stand at place i, before its end
-  module _ (t : Bytes) (i : ℕ) (k : Closed t i) (e : starts lineEnd (drop i t) ≡ false) where
+  module _ (t : Bytes) (i : ℕ) (k : LineEnds t i) (e : starts lineEnd (drop i t) ≡ false) where
     not-empty : lineAt t i ≡ [] → ⊥
     not-empty q = sees-more t i k e (λ b u p. let z : _≡_ {A = ℕ} 0 1 = cc in omega arith)
 
     -- by its head
-    pub by-head : headAt fold t i ≡ pick (isName fold (nameRun fold t i)) (fromColon fold (nameRun fold t i) (past blank (past (nameByte fold) (lineAt t i)))) (fault 5)
+    pub by-head : formFrom fold t i ≡ pick (isName fold (nameRun fold t i)) (fromColon fold (nameRun fold t i) (past blank (past (nameByte fold) (lineAt t i)))) (fault 5)
     by-head =
         from-head (lineAt t i) not-empty
         ∙ ap (λ (h : Bytes). pick (isName fold h) (fromColon fold h (past blank (past (nameByte fold) (lineAt t i)))) (fault 5)) (sym (run-name t i k))
 
     -- no name there: no rule
-    pub headless : isName fold (nameRun fold t i) ≡ false → headAt fold t i ≡ fault 5
+    pub headless : isName fold (nameRun fold t i) ≡ false → formFrom fold t i ≡ fault 5
     headless n = by-head ∙ pick-false _ (fault 5) n
 
     -- the place behind the head and its blanks
     module _ (mid : ℕ) (at : mid ≡ unword fold t i) where
-      mid-closed : Closed t mid
-      mid-closed = subst (Closed t) (sym at) (closed-unword t i k)
+      mid-closed : LineEnds t mid
+      mid-closed = subst (LineEnds t) (sym at) (closed-unword t i k)
 
       mid-line : lineAt t mid ≡ past blank (past (nameByte fold) (lineAt t i))
       mid-line = ap (lineAt t) at ∙ line-unword t i k
@@ -160,7 +160,7 @@ module _ (fold : ℕ → ℕ) (law : Folding fold) where
       mid-sees = sees-line t mid mid-closed colon refl ∙ ap (starts colon) mid-line
 
       -- no colon there
-      pub uncoloned : starts colon (drop mid t) ≡ false → headAt fold t i ≡ fault 5
+      pub uncoloned : starts colon (drop mid t) ≡ false → formFrom fold t i ≡ fault 5
       uncoloned c =
           by-head
           ∙ either (isName fold (nameRun fold t i))
@@ -175,7 +175,7 @@ module _ (fold : ℕ → ℕ) (law : Folding fold) where
         pub colon-in : mid < length t
         colon-in = subst (λ (j : ℕ). j < length t) (sym at) (in-text t (pastAt (nameByte fold) t i) (after-word t i k) blank blank-end)
 
-        pub closed-body : Closed t (mid + 1)
+        pub closed-body : LineEnds t (mid + 1)
         closed-body = closed-next t mid mid-closed colon (seen .0) (seen .1)
 
         -- to the same end
@@ -188,11 +188,11 @@ module _ (fold : ℕ → ℕ) (law : Folding fold) where
 
         -- a head and a colon: the words behind it tell
         coloned : isName fold (nameRun fold t i) ≡ true
-            → headAt fold t i ≡ pick (allNames fold (wordsAt t (mid + 1))) (rule (spelling fold (nameRun fold t i) (wordsAt t (mid + 1)))) (fault 5)
+            → formFrom fold t i ≡ pick (allNames fold (wordsAt t (mid + 1))) (rule (spelling fold (nameRun fold t i) (wordsAt t (mid + 1)))) (fault 5)
         coloned n =
             by-head ∙ pick-true _ (fault 5) n ∙ ap (fromColon fold (nameRun fold t i)) body-is ∙ with-colon (nameRun fold t i) (lineAt t (mid + 1))
 
-        pub judged : isName fold (nameRun fold t i) ≡ true → pick (allNames fold (wordsAt t (mid + 1))) 0 5 ≡ faultOf (headAt fold t i)
+        pub judged : isName fold (nameRun fold t i) ≡ true → pick (allNames fold (wordsAt t (mid + 1))) 0 5 ≡ faultOf (formFrom fold t i)
         unfolding faultOf
         judged n =
             either (allNames fold (wordsAt t (mid + 1)))
@@ -200,13 +200,13 @@ module _ (fold : ℕ → ℕ) (law : Folding fold) where
             (λ q. pick-false 0 5 q ∙ sym (ap faultOf (coloned n ∙ pick-false _ (fault 5) q)))
 
         -- a rule says the clause that they spell
-        pub says : isName fold (nameRun fold t i) ≡ true → (d : Clause) → headAt fold t i ≡ rule d
+        pub says : isName fold (nameRun fold t i) ≡ true → (d : Clause) → formFrom fold t i ≡ rule d
             → (allNames fold (wordsAt t (mid + 1)) ≡ true) × (spelling fold (nameRun fold t i) (wordsAt t (mid + 1)) ≡ d)
         says n d q = picked (allNames fold (wordsAt t (mid + 1))) (spelling fold (nameRun fold t i) (wordsAt t (mid + 1))) d (sym (coloned n) ∙ q)
 
   -- Words.
 
-  module _ (t : Bytes) (i : ℕ) (k : Closed t i) where
+  module _ (t : Bytes) (i : ℕ) (k : LineEnds t i) where
     -- past the blanks it is
     trim-unblank : Trim t (unblank t i)
     trim-unblank =
@@ -257,11 +257,11 @@ module _ (fold : ℕ → ℕ) (law : Folding fold) where
           ∙ ap (λ (ws : List Bytes). nameRun fold t i ∷ ws) (sym words-on))
 
   -- the start, past the blanks at i
-  module _ (t : Bytes) (i j : ℕ) (k : Closed t i) (e : j ≡ unblank t i) where
+  module _ (t : Bytes) (i j : ℕ) (k : LineEnds t i) (e : j ≡ unblank t i) where
     pub walk-start : Walk fold t j j []
     walk-start =
         record {
-          closed = subst (Closed t) (sym e) (closed-unblank t i k);
+          closed = subst (LineEnds t) (sym e) (closed-unblank t i k);
           trim = subst (Trim t) (sym e) (trim-unblank t i k);
           ends = refl;
           tells = refl;

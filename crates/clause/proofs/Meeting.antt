@@ -22,7 +22,7 @@ use Rattle.tables.specs.Numbering.{place, meet}
 use Rattle.tables.specs.Areas.{padded, nameRows, namesIn}
 use Rattle.tables.specs.Begun.{begun}
 use Rattle.tables.proofs.Numbering.{place-le, place-new, meet-known, meet-new, by-place}
-use Rattle.lexicon.specs.Index.{Indexed, NameAt, wordAt, settled, entered, enteredArea}
+use Rattle.lexicon.specs.Index.{Indexed, NameAt, wordAt, noneAdded, entered, enteredArea}
 use Rattle.lexicon.proofs.Entering.{settled-name, settled-full, settled-new, kept-area, kept-index, new-area, new-index, entered-length, entered-past, entered-names, entered-begun, entered-fine}
 use Rattle.lexicon.proofs.Entering.{entered-meet, meet-fits, meet-over}
 use Rattle.lexicon.proofs.Spelling.{word-fine}
@@ -31,11 +31,11 @@ use Rattle.clause.specs.Found.{NameHere, Kept, Lexicon, lexiconOf, names
 
 -- how many names there are then
 module _ (ns : List Bytes) (w : Bytes) where
-  same-count : settled ns w ≡ true → length (entered ns w) ≡ length ns
+  same-count : noneAdded ns w ≡ true → length (entered ns w) ≡ length ns
   unfolding entered
   same-count e = ap length (pick-true ns (ns ++ (w ∷ [])) e)
 
-  more-count : settled ns w ≡ false → length (entered ns w) ≡ length ns + 1
+  more-count : noneAdded ns w ≡ false → length (entered ns w) ≡ length ns + 1
   unfolding entered
   more-count e = ap length (pick-false ns (ns ++ (w ∷ [])) e) ∙ length-append ns (w ∷ [])
 
@@ -139,7 +139,7 @@ module _ (fold : ℕ → ℕ) (law : Folding fold) (t : Bytes) (i end bucket : �
         → Meeting (nameFolded fold t i) true (x .count) x (lexiconOf (x .count + 1) area′ first′ prior′)
     met-new number p l m area′ first′ prior′ a f b =
         let lt : x .count < names = omega (arith, k .few, m) in
-        let s : settled ns w ≡ false = settled-new ns w (omega (arith, p, k .count)) (omega (arith, k .count)) in
+        let s : noneAdded ns w ≡ false = settled-new ns w (omega (arith, p, k .count)) (omega (arith, k .count)) in
         let next : x .count ≡ place ns w = omega (arith, p, place-le ns w, k .count) in
         with-room (lexiconOf (x .count + 1) area′ first′ prior′)
         (new-area (x .area) w (x .count) number (x .first) (x .prior) (k .index) p l lt area′ a)

@@ -12,7 +12,7 @@ use Rattle.sets.proofs.Logic.{pick-true, pick-false}
 use Rattle.grammar.specs.Bytes.{Bytes, Folding, lineEnd}
 use Rattle.grammar.specs.Lines.{isName, allNames, starts}
 use Rattle.scan.specs.Places.{nameRun, nameFolded}
-use Rattle.clause.specs.Line.{Closed, unblank, unword, wordsAt}
+use Rattle.clause.specs.Line.{LineEnds, unblank, unword, wordsAt}
 use Rattle.clause.proofs.Forms.{Walk, walk-start, same-words, same-end, walk-fault, walk-sound, walk-end, walk-all, walk-on}
 use Rattle.clause.specs.Found.{Kept, Lexicon, namesAt, InOrder, Onward, Bodied}
 use Rattle.clause.proofs.Rows.{kept-same, kept-on}
@@ -33,7 +33,7 @@ pub record Passed (fold : ℕ → ℕ) (t : Bytes) (i j : ℕ) (room : Bool) (x 
 
 module _ (fold : ℕ → ℕ) (law : Folding fold) (t : Bytes) (i j : ℕ) (room : Bool) (x : Lexicon) where
   -- none yet
-  pub passed-start : (row : List ℕ) → (room ≡ true → InOrder x) → Closed t i → j ≡ unblank t i → Passed fold t j j room x room x row row
+  pub passed-start : (row : List ℕ) → (room ≡ true → InOrder x) → LineEnds t i → j ≡ unblank t i → Passed fold t j j room x room x row row
   passed-start row r k e =
       record {
         words = [];
@@ -64,7 +64,7 @@ module _ (fold : ℕ → ℕ) (law : Folding fold) (t : Bytes) (i j : ℕ) (room
         }
 
     -- at the start there were blanks, from place b
-    module _ (b : ℕ) (k : Closed t b) (s : i ≡ unblank t b) where
+    module _ (b : ℕ) (k : LineEnds t b) (s : i ≡ unblank t b) where
       -- a word that is no name
       pub passed-fault : (at : ℕ) → starts lineEnd (drop j t) ≡ false → isName fold (nameRun fold t j) ≡ false
           → Bodied fold t b room x 5 at room₁ x₁ row row₁

@@ -16,7 +16,7 @@ use Rattle.grammar.proofs.Spans.{span-le, run-before, past-before, span-end, pa
 use Rattle.grammar.proofs.Words.{starts-before}
 use Rattle.grammar.proofs.Bodies.{split}
 use Rattle.scan.specs.Places.{pastAt}
-use Rattle.clause.specs.Line.{Begins, Closed, lineAt}
+use Rattle.clause.specs.Line.{Begins, LineEnds, lineAt}
 
 -- a first byte is the one that is seen
 pub starts-eq : (x : ℕ) (r : Bytes) → starts x r ≡ true → (u : Bytes) × (r ≡ x ∷ u)
@@ -59,7 +59,7 @@ next-of : (r : Bytes) (b : ℕ) (s rest : Bytes) → Begins r (b ∷ s) rest →
 next-of r b s rest k =
     record { shape = ap (λ (x : Bytes). drop 1 x) (k .shape); unbroken = all-tail notEnd b s (k .unbroken) }
 
-module _ (t : Bytes) (i : ℕ) (k : Closed t i) where
+module _ (t : Bytes) (i : ℕ) (k : LineEnds t i) where
   abbrev s : Bytes
   s = k .0
 
@@ -76,7 +76,7 @@ module _ (t : Bytes) (i : ℕ) (k : Closed t i) where
     past-here =
         subst (λ (x : Bytes). Begins x (past p (lineAt t i)) (k .1)) (sym past-place) (past-in (drop i t) (lineAt t i) (k .1) here p e)
 
-    pub closed-past : Closed t (pastAt p t i)
+    pub closed-past : LineEnds t (pastAt p t i)
     closed-past = (past p (lineAt t i), k .1, past-here)
 
     pub line-past : lineAt t (pastAt p t i) ≡ past p (lineAt t i)
@@ -129,7 +129,7 @@ module _ (t : Bytes) (i : ℕ) (k : Closed t i) where
         subst (λ (x : Bytes). Begins x u (k .1)) (drop-drop 1 i t)
         (next-of (drop i t) b u (k .1) (subst (λ (x : Bytes). Begins (drop i t) x (k .1)) e here))
 
-    pub closed-next : Closed t (i + 1)
+    pub closed-next : LineEnds t (i + 1)
     closed-next = (u, k .1, next-here)
 
     pub line-next : lineAt t (i + 1) ≡ u

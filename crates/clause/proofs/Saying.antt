@@ -18,17 +18,17 @@ use Rattle.grammar.specs.Lines.{isName, starts}
 use Rattle.scan.specs.Places.{nameRun, nameFolded}
 use Rattle.tables.specs.Numbering.{place, meet, meetAll, places}
 use Rattle.tables.proofs.Numbering.{meet-met, meets-le, meets-keep}
-use Rattle.clause.specs.Line.{Closed, headAt, unword, wordsFolded}
+use Rattle.clause.specs.Line.{LineEnds, formFrom, unword, wordsFolded}
 use Rattle.clause.proofs.Forms.{fault-number, end-body, judged, says}
 use Rattle.clause.specs.Found.{Lexicon, namesAt, Named, InOrder, Meeting, Joining, Onward, Bodied, Ruled, Said}
 use Rattle.clause.proofs.Rows.{kept-same, kept-on, row-same}
 
 -- no rule
-pub said-fault : (fold : ℕ → ℕ) (t : Bytes) (i : ℕ) (x : Lexicon) (at : ℕ) (room : Bool) (head : ℕ) (row : List ℕ) → headAt fold t i ≡ fault 5
+pub said-fault : (fold : ℕ → ℕ) (t : Bytes) (i : ℕ) (x : Lexicon) (at : ℕ) (room : Bool) (head : ℕ) (row : List ℕ) → formFrom fold t i ≡ fault 5
     → Said fold t i x 5 at room head x row
 said-fault fold t i x at room head row e =
     record {
-      judged = fault-number (headAt fold t i) 5 e;
+      judged = fault-number (formFrom fold t i) 5 e;
       ends = λ o. absurd (omega arith);
       kept = kept-same nameArea (x .area);
       says = λ c q. let z : _≡_ {A = ℕ} 0 1 = cc in absurd (omega arith);
@@ -85,7 +85,7 @@ module _ (w : Bytes) (r₁ : Bool) (head : ℕ) (x x₁ : Lexicon) (met : Meetin
     ruled = either r₁ with-room with-none
 
 -- a head at place i, a colon at mid and what is behind it
-module _ (fold : ℕ → ℕ) (law : Folding fold) (t : Bytes) (i mid : ℕ) (k : Closed t i) (e : starts lineEnd (drop i t) ≡ false)
+module _ (fold : ℕ → ℕ) (law : Folding fold) (t : Bytes) (i mid : ℕ) (k : LineEnds t i) (e : starts lineEnd (drop i t) ≡ false)
     (g : isName fold (nameRun fold t i) ≡ true) (q : mid ≡ unword fold t i) (s : starts colon (drop mid t) ≡ true) where
   pub said-body : (x : Lexicon) (r₁ : Bool) (head : ℕ) (x₁ : Lexicon) → Meeting (nameFolded fold t i) r₁ head x x₁
       → (number at : ℕ) (r₂ : Bool) (x₂ : Lexicon) (row₁ row₂ : List ℕ) → row₁ ≡ pack bodyWords emptySet

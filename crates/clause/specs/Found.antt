@@ -18,7 +18,7 @@ use Rattle.tables.specs.Numbering.{place, meet, meetAll, places}
 use Rattle.tables.specs.Areas.{nameRows, nonzero, namesIn}
 use Rattle.tables.specs.Begun.{begun}
 use Rattle.lexicon.specs.Index.{Indexed}
-use Rattle.clause.specs.Line.{headAt, wordsAt, wordsFolded, faultOf}
+use Rattle.clause.specs.Line.{formFrom, wordsAt, wordsFolded, faultOf}
 
 -- a name stands at place i: the run of name bytes there, up to end, with its bucket
 pub record NameHere (fold : ℕ → ℕ) (t : Bytes) (i end bucket : ℕ) : Type 0 where
@@ -99,7 +99,7 @@ pub record Ruled (ns : List Bytes) (c : Clause) (room : Bool) (head : ℕ) (x′
 -- what is found in the line from its head at place i on: its fault; else `at` is the line's end, and the rule is that value
 pub record Said (fold : ℕ → ℕ) (t : Bytes) (i : ℕ) (x : Lexicon) (fault at : ℕ) (room : Bool) (head : ℕ) (x′ : Lexicon)
     (row : List ℕ) : Type 0 where
-  pub judged : fault ≡ faultOf (headAt fold t i)
+  pub judged : fault ≡ faultOf (formFrom fold t i)
   pub ends : fault ≡ 0 → at ≡ pastAt notEnd t i
   pub kept : Kept nameArea (x .area) (x′ .area)
-  pub says : (c : Clause) → headAt fold t i ≡ rule c → Ruled (namesAt x) c room head x′ row
+  pub says : (c : Clause) → formFrom fold t i ≡ rule c → Ruled (namesAt x) c room head x′ row

@@ -16,16 +16,16 @@ pub record Begins (r s rest : Bytes) : Type 0 where
   pub unbroken : allOf notEnd s ≡ true
 
 -- the line at place i has its end
-abbrev pub Closed : Bytes → ℕ → Type 0
-Closed t i = (s : Bytes) × (rest : Bytes) × Begins (drop i t) s rest
+abbrev pub LineEnds : Bytes → ℕ → Type 0
+LineEnds t i = (s : Bytes) × (rest : Bytes) × Begins (drop i t) s rest
 
 -- the line at place i, without its end
 abbrev pub lineAt : Bytes → ℕ → Bytes
 lineAt t i = run notEnd (drop i t)
 
 -- the form from place i on, where the line's head should stand
-abbrev pub headAt : (ℕ → ℕ) → Bytes → ℕ → Form
-headAt fold t i = fromHead fold (lineAt t i)
+abbrev pub formFrom : (ℕ → ℕ) → Bytes → ℕ → Form
+formFrom fold t i = fromHead fold (lineAt t i)
 
 -- the words from place i on, as they stand and folded
 abbrev pub wordsAt : Bytes → ℕ → List Bytes

@@ -16,7 +16,7 @@ ghost use Rattle.grammar.specs.Bytes.{lineEnd, Bytes, nameByte, letters};
 ghost use Rattle.grammar.specs.Lines.{starts, isName};
 ghost use Rattle.scan.specs.Fold.{FoldTable};
 ghost use Rattle.scan.specs.Places.{pastAt, nameRun, nameFolded};
-ghost use Rattle.clause.specs.Line.{Closed};
+ghost use Rattle.clause.specs.Line.{LineEnds};
 ghost use Rattle.clause.specs.Found.{NameHere, Kept, lexiconOf, namesAt, InOrder, Meeting, Onward, Bodied, Said};
 
 // Whether the run of name bytes from place `at` is a name: 1 to 32 bytes of any text that has it there, under any letters.
@@ -201,7 +201,7 @@ fn body(
     n: usize,
     room: bool,
 ) -> Found
-    requires { ⌜ Closed (now text) (cursor .at) × FoldTable (now table) × (length (now row) ≡ bodyWords) ⌝ }
+    requires { ⌜ LineEnds (now text) (cursor .at) × FoldTable (now table) × (length (now row) ≡ bodyWords) ⌝ }
     requires { ⌜ (room ≡ true → InOrder (lexiconOf n (now spellings) (now first) (now prior))) ⌝ }
     ensures head { λ r. ⌜ (r .head ≡ head) × (r .cursor .line ≡ cursor .line) ⌝ }
     ensures body { λ r. ⌜ Bodied (letters (now (table .entry))) (now (text .entry)) (cursor .at) room
@@ -272,7 +272,7 @@ pub fn rule(
     row: &mut [u64],
     n: usize,
 ) -> Found
-    requires { ⌜ Closed (now text) (cursor .at) × (starts lineEnd (drop (cursor .at) (now text)) ≡ false) ⌝ }
+    requires { ⌜ LineEnds (now text) (cursor .at) × (starts lineEnd (drop (cursor .at) (now text)) ≡ false) ⌝ }
     requires { ⌜ FoldTable (now table) × (now row ≡ replicate bodyWords 0) ⌝ }
     requires { ⌜ InOrder (lexiconOf n (now spellings) (now first) (now prior)) ⌝ }
     ensures line { λ r. ⌜ r .cursor .line ≡ cursor .line ⌝ }

@@ -4,7 +4,7 @@ use mathlib.Core.Path.{_≡_, refl}
 use mathlib.Core.List.{List, [], _∷_, map}
 use Prim.Native.String.{String}
 use Rattle.sets.specs.Set.{pick}
-use Rattle.grammar.specs.Bytes.{bytes, blank, small, folded, nameByte, allOf}
+use Rattle.grammar.specs.Bytes.{bytes, blank, small, ourLetters, nameByte, allOf}
 use Rattle.grammar.specs.Grammar.{Form, silent, rule, fault}
 use Rattle.grammar.specs.Lines.{span, grown, goesOn, wordsOf, isName, allNames, fromColon, fromHead, starts, formOf}
 
@@ -33,6 +33,6 @@ table =
     ∷ []
 
 -- the computed forms are those
-pub line-forms : map (λ (r : String × Form). formOf folded (bytes (r .0))) table ≡ map (λ (r : String × Form). r .1) table
-unfolding pick blank small folded nameByte allOf span grown goesOn wordsOf isName allNames fromColon fromHead starts formOf
+pub line-forms : map (λ (r : String × Form). formOf ourLetters (bytes (r .0))) table ≡ map (λ (r : String × Form). r .1) table
+unfolding pick blank small ourLetters nameByte allOf span grown goesOn wordsOf isName allNames fromColon fromHead starts formOf
 line-forms = refl

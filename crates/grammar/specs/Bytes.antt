@@ -52,8 +52,8 @@ unfoldable pub small : ℕ → Bool
 small b = from-to 97 122 b || (from-to 48 57 b || (eqb b 46 || (eqb b 95 || eqb b 45)))
 
 -- document 01's entry for a byte: the small letter; 0 for a byte that no name has
-unfoldable pub folded : ℕ → ℕ
-folded b = pick (from-to 65 90 b) (b + 32) (pick (small b) b 0)
+unfoldable pub ourLetters : ℕ → ℕ
+ourLetters b = pick (from-to 65 90 b) (b + 32) (pick (small b) b 0)
 
 -- the folding that a table gives: "one for each byte value", and 0 for a number that is no byte
 unfoldable pub letters : List ℕ → ℕ → ℕ

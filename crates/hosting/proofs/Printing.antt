@@ -39,13 +39,6 @@ filled-anew xs old e =
     let past : length old ≤ listingBytes = omega arith in
     ap (λ (s : Bytes). xs ++ (replicate (listingBytes - length xs) 0 ++ s)) (drop-of-length-le old past)
 
--- its text ends where the zeros begin
-text-ends : (xs : Bytes) → allOf nonzero xs ≡ true → span nonzero (filled listingBytes xs []) ≡ length xs
-unfolding filled
-text-ends xs e =
-    let k : ℕ = listingBytes - length xs in
-    ap (λ (s : Bytes). span nonzero (xs ++ s)) (append-nil (replicate k 0)) ∙ span-zeros xs k e
-
 -- a refusal's line has no zero byte
 refusal-nonzero : (number line : ℕ) → allOf nonzero (refusalLine number line) ≡ true
 unfolding refusalLine
@@ -91,13 +84,6 @@ module _ (fold : ℕ → ℕ) (folding : Folding fold) (t old : Bytes) (exact : 
     pub area-is : r .listing ≡ filled listingBytes (printed fold t) []
     unfolding listed
     area-is = listing .left ∙ ap (λ (xs : Bytes). filled listingBytes xs old) (sym whole) ∙ filled-anew (printed fold t) old exact
-
-    -- its end is found
-    pub print-listed : (n : ℕ) → n ≡ span nonzero (r .listing) → record { count = n; area = r .listing } ≡ printCall fold t
-    unfolding printCall
-    print-listed n q =
-        let m : n ≡ length (printed fold t) = q ∙ ap (span nonzero) area-is ∙ text-ends (printed fold t) nonzero-all in
-        ap₂ (λ (i : ℕ) (a : Bytes). record { count = i; area = a }) m area-is
 
   -- a refusal: its line
   module _ (some : r .number ≡ 0 → ⊥) where

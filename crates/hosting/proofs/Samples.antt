@@ -5,15 +5,15 @@ use mathlib.Core.List.{List, [], _∷_, map}
 use Prim.Native.String.{String}
 use Rattle.sets.specs.Set.{pick, every, exists, count, within, meets, same, image, members}
 use Rattle.sets.specs.Steps.{after, roundsIn, rounds, reached}
-use Rattle.program.specs.System.{anyHead, allStep, round, unfoldOnce, unfolded, roundsOf, heldBy}
+use Rattle.program.specs.System.{anyHead, allStep, round, unfoldOnce, rowsAfter, roundsOf, heldBy}
 use Rattle.program.specs.Standard.{ways, several, helper, home, hasBody, countedAtoms, allRow, anyRow, startSet}
-use Rattle.grammar.specs.Bytes.{bytes, blank, small, folded, nameByte, allOf}
+use Rattle.grammar.specs.Bytes.{bytes, blank, small, ourLetters, nameByte, allOf}
 use Rattle.grammar.specs.Grammar.{joined}
 use Rattle.grammar.specs.Lines.{span, grown, lines, goesOn, wordsOf, isName, allNames, fromColon, fromHead, starts, formOf}
 use Rattle.tables.specs.Numbering.{sameBytes, place, meet, meetAll, standing, namesOf, places, numbered, programOf}
 use Rattle.tables.specs.Reading.{lineCause, taken, readLines, bookOf, reading}
 use Rattle.solving.specs.Listing.{figures, decimal, headLine, heldNames, listingLines}
-use Rattle.hosting.specs.Print.{refusalLine, linesOf, printed}
+use Rattle.hosting.specs.Print.{refusalLine, printedLines, printed}
 
 -- a sample: a text, and what is printed of it
 abbrev Sample : Type 0
@@ -29,6 +29,6 @@ table =
     ∷ []
 
 -- they are printed so
-pub prints-agree : map (λ (x : Sample). printed folded (bytes (x .0))) table ≡ map (λ (x : Sample). bytes (x .1)) table
-unfolding pick every exists count within meets same image members after roundsIn rounds reached anyHead allStep round unfoldOnce unfolded roundsOf heldBy ways several helper home hasBody countedAtoms allRow anyRow startSet blank small folded nameByte allOf joined span grown lines goesOn wordsOf isName allNames fromColon fromHead starts formOf sameBytes place meet meetAll standing namesOf places numbered programOf lineCause taken readLines bookOf reading figures decimal headLine heldNames listingLines refusalLine linesOf printed
+pub prints-agree : map (λ (x : Sample). printed ourLetters (bytes (x .0))) table ≡ map (λ (x : Sample). bytes (x .1)) table
+unfolding pick every exists count within meets same image members after roundsIn rounds reached anyHead allStep round unfoldOnce rowsAfter roundsOf heldBy ways several helper home hasBody countedAtoms allRow anyRow startSet blank small ourLetters nameByte allOf joined span grown lines goesOn wordsOf isName allNames fromColon fromHead starts formOf sameBytes place meet meetAll standing namesOf places numbered programOf lineCause taken readLines bookOf reading figures decimal headLine heldNames listingLines refusalLine printedLines printed
 prints-agree = refl

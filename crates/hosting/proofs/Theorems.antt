@@ -7,7 +7,7 @@ use Prim.Native.Nat.{ℕ}
 use native.Mathlib.Omega.{arith}
 use lib.ListN.{length}
 use Rattle.limits.specs.Book.{folds, listingBytes}
-use Rattle.grammar.specs.Bytes.{Bytes, Folding, lineEnd, folded}
+use Rattle.grammar.specs.Bytes.{Bytes, Folding, lineEnd, ourLetters}
 use Rattle.grammar.specs.Grammar.{joined}
 use Rattle.grammar.proofs.Folding.{folding as ours}
 use Rattle.hosting.specs.List.{ListOutcome, listCall}
@@ -40,5 +40,5 @@ hosts fold folding =
     record { judges = call-judges fold folding; lists = call-lists fold folding; prints = prints-in fold folding; sizes = call-sizes fold }
 
 -- as the calls' contracts have them
-pub hosts-listed : Hosts folded
-hosts-listed = hosts folded ours
+pub hosts-listed : Hosts ourLetters
+hosts-listed = hosts ourLetters ours

@@ -26,13 +26,13 @@ use Rattle.solving.specs.Solve.{SolveOutcome, shortAreas, answerOf, solvedAreas
 use Rattle.solving.specs.SolveClaims.{SolveLong}
 use Rattle.solving.proofs.Judging.{long-areas, solve-long-text, solve-in-range, solve-refused, solve-over-atoms, solve-solved}
 use Rattle.hosting.specs.List.{ListOutcome, ownAreas, seen, listCall}
-use Rattle.hosting.specs.Print.{refusalLine, linesOf}
+use Rattle.hosting.specs.Print.{refusalLine, printedLines}
 
 -- refused under a number and a line, which are printed
 pub record Refused (fold : ℕ → ℕ) (t old : Bytes) (r : ListOutcome) : Type 0 where
   pub some : r .number ≡ 0 → ⊥
   pub kept : r .listing ≡ old
-  pub lines : linesOf (reading fold t) ≡ refusalLine (r .number) (r .line) ∷ []
+  pub lines : printedLines (reading fold t) ≡ refusalLine (r .number) (r .line) ∷ []
 
 -- the rows of a book's rules after 8 folds
 abbrev pub rowsOf : List Clause → System
@@ -44,7 +44,7 @@ pub record Listed (fold : ℕ → ℕ) (t old : Bytes) (r : ListOutcome) : Type 
   pub none : r .number ≡ 0
   pub reads : bookOf fold t ≡ read cs
   pub left : r .listing ≡ listed (namesOf cs) (heldBy (rowsOf cs)) folds (roundsOf (rowsOf cs)) old
-  pub lines : linesOf (reading fold t) ≡ listingLines (namesOf cs) (heldBy (rowsOf cs)) folds (roundsOf (rowsOf cs))
+  pub lines : printedLines (reading fold t) ≡ listingLines (namesOf cs) (heldBy (rowsOf cs)) folds (roundsOf (rowsOf cs))
 
 abbrev pub Way : (ℕ → ℕ) → Bytes → Bytes → ListOutcome → Type 0
 Way fold t old r = Refused fold t old r ⊎ Listed fold t old r
@@ -73,7 +73,7 @@ module _ (fold : ℕ → ℕ) (folding : Folding fold) (t old : Bytes) (long : l
 
   -- the solver refuses
   way-refused : (r : ListOutcome) (number line : ℕ) → r ≡ record { number = number; line = line; listing = old } → (number ≡ 0 → ⊥)
-      → linesOf (reading fold t) ≡ refusalLine number line ∷ [] → Way fold t old r
+      → printedLines (reading fold t) ≡ refusalLine number line ∷ [] → Way fold t old r
   way-refused r number line e some q =
       inl (record {
         some = λ z. some (sym (ap (λ (x : ListOutcome). x .number) e) ∙ z);
@@ -93,11 +93,11 @@ module _ (fold : ℕ → ℕ) (folding : Folding fold) (t old : Bytes) (long : l
       read-is x b =
           solve-in-range fold t folds (ownAreas old) enough fits (omega arith) ∙ ap (λ (y : Reading). solveRead y folds (ownAreas old)) b
 
-      lines-are : (x : Reading) → bookOf fold t ≡ x → linesOf (reading fold t) ≡ linesOf x
-      lines-are x b = ap linesOf (reading-short fold t fits ∙ b)
+      lines-are : (x : Reading) → bookOf fold t ≡ x → printedLines (reading fold t) ≡ printedLines x
+      lines-are x b = ap printedLines (reading-short fold t fits ∙ b)
 
       by-reading : (x : Reading) → bookOf fold t ≡ x → Way fold t old r
-      unfolding answerOf solvedAreas linesOf
+      unfolding answerOf solvedAreas printedLines
       by-reading (refused q line) b =
           way-refused r q line (r-is _ (read-is (refused q line) b ∙ solve-refused q line folds (ownAreas old)))
           (refusal-some fold t q line (judged fold folding .refuses t q line .0 b)) (lines-are (refused q line) b)
@@ -120,10 +120,10 @@ module _ (fold : ℕ → ℕ) (folding : Folding fold) (t old : Bytes) (long : l
 
     -- whatever the text
     pub way : Way fold t old r
-    unfolding reading linesOf
+    unfolding reading printedLines
     way =
         either (ltb textBytes (length t))
         (λ l.
         way-refused r 2 0 (r-is _ (solve-long-text fold t folds (ownAreas old) enough (ltb-true textBytes (length t) l))) (λ z. omega arith)
-        (ap linesOf (pick-true (refused 2 0) (bookOf fold t) l)))
+        (ap printedLines (pick-true (refused 2 0) (bookOf fold t) l)))
         (λ l. by-reading (ltb-false textBytes (length t) l) (bookOf fold t) refl)

@@ -21,15 +21,15 @@ unfoldable pub refusalLine : ℕ → ℕ → Bytes
 refusalLine number line = bytes "DPL 0001 refused=" ++ (decimal number ++ (bytes " line=" ++ decimal line))
 
 -- the lines for what a text comes to: its refusal, refusal 8 for over 256 atoms, or the listing after 8 folds
-unfoldable pub linesOf : Reading → List Bytes
-linesOf (refused number line) = refusalLine number line ∷ []
-linesOf (read cs) =
+unfoldable pub printedLines : Reading → List Bytes
+printedLines (refused number line) = refusalLine number line ∷ []
+printedLines (read cs) =
     let s : System = folded folds (standard (programOf cs)) in
     pick (ltb atoms (standard (programOf cs) .atoms)) (refusalLine 8 0 ∷ []) (listingLines (namesOf cs) (heldBy s) folds (roundsOf s))
 
 -- what is printed of the text t
 unfoldable pub printed : (ℕ → ℕ) → Bytes → Bytes
-printed fold t = joined (linesOf (reading fold t))
+printed fold t = joined (printedLines (reading fold t))
 
 -- how many bytes are to be printed, and the area that holds them, zero after them
 pub record PrintOutcome : Type 0 where

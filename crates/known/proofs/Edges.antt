@@ -9,7 +9,7 @@ use Rattle.limits.specs.Cause.{solveCauses}
 use Rattle.limits.proofs.Causes.{without, inside}
 use Rattle.sets.specs.Set.{pick, count}
 use Rattle.program.specs.Standard.{ways, several, helper}
-use Rattle.grammar.specs.Bytes.{blank, small, folded, nameByte, allOf}
+use Rattle.grammar.specs.Bytes.{blank, small, ourLetters, nameByte, allOf}
 use Rattle.grammar.specs.Lines.{span, grown, lines, goesOn, wordsOf, isName, allNames, fromColon, fromHead, starts, formOf}
 use Rattle.tables.specs.Numbering.{sameBytes, place, meet, meetAll, standing, namesOf, places, numbered, programOf}
 use Rattle.tables.specs.Reading.{lineCause, taken, readLines, bookOf}
@@ -23,8 +23,8 @@ abbrev numbered-as : SolveAnswer → ℕ × ℕ
 numbered-as a = (a .number, a .line)
 
 -- they get these; held names, rounds, c and h are not computed
-pub edges-agree : map (λ (x : Edge). numbered-as (solveCall folded (x .text) folds oldAreas .answer)) edges ≡ map (λ (x : Edge). (x .number, x .line)) edges
-unfolding pick count ways several helper blank small folded nameByte allOf span grown lines goesOn wordsOf isName allNames fromColon fromHead starts formOf sameBytes place meet meetAll standing namesOf places numbered programOf lineCause taken readLines bookOf short shortAreas answerOf solveRead solveCall ruleTimes namesOn
+pub edges-agree : map (λ (x : Edge). numbered-as (solveCall ourLetters (x .text) folds oldAreas .answer)) edges ≡ map (λ (x : Edge). (x .number, x .line)) edges
+unfolding pick count ways several helper blank small ourLetters nameByte allOf span grown lines goesOn wordsOf isName allNames fromColon fromHead starts formOf sameBytes place meet meetAll standing namesOf places numbered programOf lineCause taken readLines bookOf short shortAreas answerOf solveRead solveCall ruleTimes namesOn
 edges-agree = refl
 
 -- each number of the solver stands among them, but for 1 and 9, which no text gets: so none is listed that it never gives

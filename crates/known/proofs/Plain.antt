@@ -11,7 +11,7 @@ use borrow.Author.Tests.{eqb-true}
 use lib.ListN.{length}
 use Rattle.limits.specs.Book.{rowWords}
 use Rattle.sets.proofs.Logic.{and-left, and-right, and-make}
-use Rattle.grammar.specs.Bytes.{Bytes, bytes, folded}
+use Rattle.grammar.specs.Bytes.{Bytes, bytes, ourLetters}
 use Rattle.grammar.specs.Grammar.{Clause}
 use Rattle.tables.specs.Numbering.{namesOf}
 use Rattle.tables.specs.Reading.{Fits}
@@ -44,9 +44,9 @@ module _ (model : List ℕ) (long : rowWords ≤ length model) where
   Alike x = plainOn plainCall x model ≡ plainOn unjudged x model
 
   on-outcome : (t : Bytes) (old : Areas)
-      → ((n : ℕ) × (m : ℕ) × (o : Areas) × (readCall folded t old ≡ accepted n m o))
-      ⊎ ((k : ℕ) × (line : ℕ) × (k ≡ 0 → ⊥) × (readCall folded t old ≡ refusal k line old))
-      → readCall folded t old .answer .number ≡ 0 → Alike (readCall folded t old)
+      → ((n : ℕ) × (m : ℕ) × (o : Areas) × (readCall ourLetters t old ≡ accepted n m o))
+      ⊎ ((k : ℕ) × (line : ℕ) × (k ≡ 0 → ⊥) × (readCall ourLetters t old ≡ refusal k line old))
+      → readCall ourLetters t old .answer .number ≡ 0 → Alike (readCall ourLetters t old)
   unfolding refusal
   on-outcome t old (inl (n, m, o, e)) z =
       let (cs, s, fits, book, a, b, c) = books-read .accepts t old o n m .0 e in
@@ -56,10 +56,10 @@ module _ (model : List ℕ) (long : rowWords ≤ length model) where
 
   -- what the table says with the rounds alone, it says with the call
   answers-plain : (xs : List Bytes) (t : Bytes) (old : Areas)
-      → answersPlain unjudged xs (readCall folded t old) model ≡ true → answersPlain plainCall xs (readCall folded t old) model ≡ true
+      → answersPlain unjudged xs (readCall ourLetters t old) model ≡ true → answersPlain plainCall xs (readCall ourLetters t old) model ≡ true
   unfolding answersPlain
   answers-plain xs t old e =
-      let o : Outcome = readCall folded t old in
+      let o : Outcome = readCall ourLetters t old in
       let z : eqb (o .answer .number) 0 ≡ true = and-left (eqb (o .answer .number) 0) (plainHolds xs o (plainOn unjudged o model)) e in
       ap (λ (r : PlainOutcome). eqb (o .answer .number) 0 && plainHolds xs o r)
       (on-outcome t old (books-read .every-call t old) (eqb-true (o .answer .number) 0 z))
@@ -74,7 +74,7 @@ all-agree old long (b ∷ bs) e =
     let t : Bytes = bytes (b .text) in
     let xs : List Bytes = map bytes (b .held) in
     let solver : Bool = answersAll old t xs (b .runs) in
-    let plain : Route → Bool = λ (p : Route). answersPlain p xs (readCall folded t (old .tables)) (old .model) in
+    let plain : Route → Bool = λ (p : Route). answersPlain p xs (readCall ourLetters t (old .tables)) (old .model) in
     let first : solver && plain unjudged ≡ true = and-left (solver && plain unjudged) (allAgree unjudged old bs) e in
     and-make
     (and-make (and-left solver (plain unjudged) first)

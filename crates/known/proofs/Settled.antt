@@ -7,9 +7,9 @@ use Rattle.sets.specs.Set.{pick, every, exists, count, within, meets, same, ima
 use Rattle.sets.specs.Steps.{after, roundsIn, rounds, reached}
 use Rattle.words.specs.Row.{bit, row, binary, pack}
 use Rattle.program.specs.Program.{consequence, plainRounds, plainHeld}
-use Rattle.program.specs.System.{anyHead, allStep, round, unfoldOnce, unfolded, roundsOf, heldBy, c, h}
+use Rattle.program.specs.System.{anyHead, allStep, round, unfoldOnce, rowsAfter, roundsOf, heldBy, c, h}
 use Rattle.program.specs.Standard.{ways, several, helper, home, hasBody, countedAtoms, allRow, anyRow, startSet}
-use Rattle.grammar.specs.Bytes.{blank, small, folded, nameByte, allOf}
+use Rattle.grammar.specs.Bytes.{blank, small, ourLetters, nameByte, allOf}
 use Rattle.grammar.specs.Grammar.{joined}
 use Rattle.grammar.specs.Lines.{span, grown, lines, goesOn, wordsOf, isName, allNames, fromColon, fromHead, starts, formOf}
 use Rattle.tables.specs.Numbering.{sameBytes, place, meet, meetAll, standing, namesOf, places, numbered, programOf}
@@ -21,16 +21,16 @@ use Rattle.systems.specs.Rounds.{withModel}
 use Rattle.solving.specs.Plain.{plainOf}
 use Rattle.solving.specs.Listing.{figures, decimal, headLine, heldNames, listingLines, listed}
 use Rattle.solving.specs.Solve.{shortAreas, answerOf, solvedAreas, solveRead, solveCall}
-use Rattle.known.specs.Test.{oldAreas, sameNames, spelt, listingIn, headThen, holds, plainHolds, says, saysAll, answers, answersEach, answersAll, answersPlain, agrees, allAgree}
-use Rattle.known.specs.Table.{books, settled}
+use Rattle.known.specs.Test.{oldAreas, sameNames, heldSpelt, listingIn, headThen, holds, plainHolds, says, saysAll, answers, answersEach, answersAll, answersPlain, agrees, allAgree}
+use Rattle.known.specs.Table.{books, allSettled}
 use Rattle.known.proofs.Plain.{unjudged, all-agree}
 
 -- computed, with the plain route's rounds alone
 computed : allAgree unjudged oldAreas books ≡ true
-unfolding pick every exists count within meets same image members after roundsIn rounds reached bit row binary pack consequence plainRounds plainHeld anyHead allStep round unfoldOnce unfolded roundsOf heldBy c h ways several helper home hasBody countedAtoms allRow anyRow startSet blank small folded nameByte allOf joined span grown lines goesOn wordsOf isName allNames fromColon fromHead starts formOf sameBytes place meet meetAll standing namesOf places numbered programOf lineCause taken readLines bookOf reading filled padded nameRows headRows bodyRows filledWith tablesOf short refusal outcome readCall nonzero nameAt lookUp ruleAt rulesFrom begun packed withModel plainOf figures decimal headLine heldNames listingLines listed shortAreas answerOf solvedAreas solveRead solveCall sameNames spelt listingIn headThen holds plainHolds says saysAll answers answersEach answersAll answersPlain agrees allAgree
+unfolding pick every exists count within meets same image members after roundsIn rounds reached bit row binary pack consequence plainRounds plainHeld anyHead allStep round unfoldOnce rowsAfter roundsOf heldBy c h ways several helper home hasBody countedAtoms allRow anyRow startSet blank small ourLetters nameByte allOf joined span grown lines goesOn wordsOf isName allNames fromColon fromHead starts formOf sameBytes place meet meetAll standing namesOf places numbered programOf lineCause taken readLines bookOf reading filled padded nameRows headRows bodyRows filledWith tablesOf short refusal outcome readCall nonzero nameAt lookUp ruleAt rulesFrom begun packed withModel plainOf figures decimal headLine heldNames listingLines listed shortAreas answerOf solvedAreas solveRead solveCall sameNames heldSpelt listingIn headThen holds plainHolds says saysAll answers answersEach answersAll answersPlain agrees allAgree
 computed = refl
 
 -- and so with its call
-pub known-books : settled ≡ true
-unfolding settled
+pub known-books : allSettled ≡ true
+unfolding allSettled
 known-books = all-agree oldAreas (omega arith) books computed

@@ -38,25 +38,25 @@ abbrev pub gets : Bytes → ℕ → ℕ → Edge
 gets text number line = record { text = text; number = number; line = line }
 
 -- the same after the mark
-abbrev pub marked : Bytes → ℕ → ℕ → Edge
-marked text = gets (bytes "DPB 0001\n" ++ text)
+abbrev pub afterMark : Bytes → ℕ → ℕ → Edge
+afterMark text = gets (bytes "DPB 0001\n" ++ text)
 
 abbrev pub edges : List Edge
 edges =
     -- 16,384 bytes, and one more
-    marked (remark 16384) 0 0
-    ∷ marked (remark 16385) 2 0
+    afterMark (remark 16384) 0 0
+    ∷ afterMark (remark 16385) 2 0
     -- the empty text, and a last byte that ends no line
     ∷ gets [] 3 0
-    ∷ marked (bytes "a:b") 4 0
+    ∷ afterMark (bytes "a:b") 4 0
     -- a name of 32 bytes, and of 33; a carriage return
-    ∷ marked (longName 32) 0 0
-    ∷ marked (longName 33) 5 2
-    ∷ marked (bytes "a:b\r\n") 5 2
+    ∷ afterMark (longName 32) 0 0
+    ∷ afterMark (longName 33) 5 2
+    ∷ afterMark (bytes "a:b\r\n") 5 2
     -- a 129th name; a 257th rule, whose names are not judged any more
-    ∷ marked (ruleTimes 2 ++ wide 129) 6 4
-    ∷ marked (ruleTimes 256 ++ wide 129) 7 258
+    ∷ afterMark (ruleTimes 2 ++ wide 129) 6 4
+    ∷ afterMark (ruleTimes 256 ++ wide 129) 7 258
     -- 128 names with 128 helpers, and one helper more
-    ∷ marked (ruleTimes 127 ++ wide 128) 0 0
-    ∷ marked (ruleTimes 128 ++ wide 128) 8 0
+    ∷ afterMark (ruleTimes 127 ++ wide 128) 0 0
+    ∷ afterMark (ruleTimes 128 ++ wide 128) 8 0
     ∷ []

@@ -28,5 +28,5 @@ books =
     ∷ []
 
 -- the table's test: by the solver, and by the plain route's call
-unfoldable pub settled : Bool
-settled = allAgree plainCall oldAreas books
+unfoldable pub allSettled : Bool
+allSettled = allAgree plainCall oldAreas books

@@ -8,7 +8,7 @@ use lib.Dec.{eqb}
 use lib.ListN.{length, take, replicate}
 use Rattle.limits.specs.Book.{rowWords, listingBytes}
 use Rattle.sets.specs.Set.{Set, members}
-use Rattle.grammar.specs.Bytes.{Bytes, bytes, folded}
+use Rattle.grammar.specs.Bytes.{Bytes, bytes, ourLetters}
 use Rattle.grammar.specs.Lines.{run, lines}
 use Rattle.tables.specs.Numbering.{sameBytes, place}
 use Rattle.tables.specs.Areas.{RuleTables, Counts, Outcome, rulesOf, filled, nonzero, lookUp, readCall}
@@ -33,8 +33,8 @@ sameNames (x ∷ xs) [] = false
 sameNames (x ∷ xs) (y ∷ ys) = sameBytes x y && sameNames xs ys
 
 -- the look-up's spellings of the members of f below n, by rising number
-unfoldable pub spelt : Bytes → ℕ → Set → List Bytes
-spelt area n f = map (lookUp area n) (members n f 0)
+unfoldable pub heldSpelt : Bytes → ℕ → Set → List Bytes
+heldSpelt area n f = map (lookUp area n) (members n f 0)
 
 -- the lines of a listing area up to its first zero byte
 unfoldable pub listingIn : Bytes → List Bytes
@@ -50,7 +50,7 @@ unfoldable pub holds : List Bytes → SolveOutcome → Bool
 holds xs r =
     eqb (r .answer .number) 0
     && (eqb (r .answer .held) (length xs)
-    && (sameNames (spelt (r .areas .tables .spellings) (r .answer .names) (modelIn (r .areas .model))) xs
+    && (sameNames (heldSpelt (r .areas .tables .spellings) (r .answer .names) (modelIn (r .areas .model))) xs
     && headThen (listingIn (r .areas .listing)) xs))
 
 -- A plain route: what it answers and leaves for rule tables, their counts and a model area.
@@ -65,15 +65,15 @@ plainOn plain o model = plain (rulesOf (o .areas)) (record { names = o .answer .
 unfoldable pub plainHolds : List Bytes → Outcome → PlainOutcome → Bool
 plainHolds xs o r =
     eqb (r .number) 0
-    && (eqb (r .held) (length xs) && sameNames (spelt (o .areas .spellings) (o .answer .names) (modelIn (r .model))) xs)
+    && (eqb (r .held) (length xs) && sameNames (heldSpelt (o .areas .spellings) (o .answer .names) (modelIn (r .model))) xs)
 
 -- one fact
 unfoldable pub says : SolveOutcome → Fact → Bool
 says r (rounds n) = eqb (r .answer .rounds) n
 says r (counts c h) = eqb (r .answer .c) c && eqb (r .answer .h) h
 says r (has x ys) =
-    let ns : List Bytes = spelt (r .areas .tables .spellings) (r .answer .names) (λ a. true) in
-    sameNames (spelt (r .areas .tables .spellings) (r .answer .names) (rowIn rowWords (r .areas .all) (place ns (bytes x)))) (map bytes ys)
+    let ns : List Bytes = heldSpelt (r .areas .tables .spellings) (r .answer .names) (λ a. true) in
+    sameNames (heldSpelt (r .areas .tables .spellings) (r .answer .names) (rowIn rowWords (r .areas .all) (place ns (bytes x)))) (map bytes ys)
 says r (lists s) = sameBytes (r .areas .listing) (filled listingBytes (bytes s) [])
 
 -- each of them
@@ -88,7 +88,7 @@ answers xs facts r = holds xs r && saysAll r facts
 -- and after each of the fold numbers
 unfoldable pub answersEach : SolveAreas → Bytes → List Bytes → List Fact → List ℕ → Bool
 answersEach old t xs facts [] = true
-answersEach old t xs facts (k ∷ ks) = answers xs facts (solveCall folded t k old) && answersEach old t xs facts ks
+answersEach old t xs facts (k ∷ ks) = answers xs facts (solveCall ourLetters t k old) && answersEach old t xs facts ks
 
 -- all runs
 unfoldable pub answersAll : SolveAreas → Bytes → List Bytes → List Runs → Bool
@@ -103,7 +103,7 @@ answersPlain plain xs o model = eqb (o .answer .number) 0 && plainHolds xs o (pl
 unfoldable pub agrees : Route → SolveAreas → Known → Bool
 agrees plain old b =
     answersAll old (bytes (b .text)) (map bytes (b .held)) (b .runs)
-    && answersPlain plain (map bytes (b .held)) (readCall folded (bytes (b .text)) (old .tables)) (old .model)
+    && answersPlain plain (map bytes (b .held)) (readCall ourLetters (bytes (b .text)) (old .tables)) (old .model)
 
 -- every book of a table
 unfoldable pub allAgree : Route → SolveAreas → List Known → Bool

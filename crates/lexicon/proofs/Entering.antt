@@ -23,48 +23,48 @@ use Rattle.tables.specs.Begun.{begun}
 use Rattle.tables.proofs.Numbering.{meet-known, meet-new, by-place}
 use Rattle.tables.proofs.Encoding.{Fine, AllFine, AllFit, length-padded, length-nameRows, nameRows-append, run-padded, put-begun}
 use Rattle.scan.specs.Hash.{buckets, hashOf}
-use Rattle.lexicon.specs.Index.{Indexed, latest, settled, entered, enteredArea}
+use Rattle.lexicon.specs.Index.{Indexed, latest, noneAdded, entered, enteredArea}
 use Rattle.lexicon.proofs.Chains.{names-length, names-at, hash-lt, place-none}
 
 -- a word that is a name, or for which there is no room, changes nothing
-entered-kept : (ns : List Bytes) (w : Bytes) → settled ns w ≡ true → entered ns w ≡ ns
+entered-kept : (ns : List Bytes) (w : Bytes) → noneAdded ns w ≡ true → entered ns w ≡ ns
 unfolding entered
 entered-kept ns w e = pick-true ns (ns ++ (w ∷ [])) e
 
 -- a new one follows the others
-entered-new : (ns : List Bytes) (w : Bytes) → settled ns w ≡ false → entered ns w ≡ ns ++ (w ∷ [])
+entered-new : (ns : List Bytes) (w : Bytes) → noneAdded ns w ≡ false → entered ns w ≡ ns ++ (w ∷ [])
 unfolding entered
 entered-new ns w e = pick-false ns (ns ++ (w ∷ [])) e
 
 -- then the area is as it was
-area-kept : (ns : List Bytes) (w area : Bytes) → settled ns w ≡ true → enteredArea ns w area ≡ area
+area-kept : (ns : List Bytes) (w area : Bytes) → noneAdded ns w ≡ true → enteredArea ns w area ≡ area
 unfolding enteredArea
 area-kept ns w area e = pick-true area (put (length ns * nameBytes) (padded w) area) e
 
 -- and its row follows the others
-area-new : (ns : List Bytes) (w area : Bytes) → settled ns w ≡ false → enteredArea ns w area ≡ put (length ns * nameBytes) (padded w) area
+area-new : (ns : List Bytes) (w area : Bytes) → noneAdded ns w ≡ false → enteredArea ns w area ≡ put (length ns * nameBytes) (padded w) area
 unfolding enteredArea
 area-new ns w area e = pick-false area (put (length ns * nameBytes) (padded w) area) e
 
 -- when nothing changes and when the word is new
 module _ (ns : List Bytes) (w : Bytes) where
   -- w is a name
-  pub settled-name : place ns w < length ns → settled ns w ≡ true
-  unfolding settled
+  pub settled-name : place ns w < length ns → noneAdded ns w ≡ true
+  unfolding noneAdded
   settled-name l = or-left (leb names (length ns)) (lt-ltb (place ns w) (length ns) l)
 
   -- there is no room
-  pub settled-full : names ≤ length ns → settled ns w ≡ true
-  unfolding settled
+  pub settled-full : names ≤ length ns → noneAdded ns w ≡ true
+  unfolding noneAdded
   settled-full l = or-right (ltb (place ns w) (length ns)) (le-leb names (length ns) l)
 
   -- w is new and there is room
-  pub settled-new : length ns ≤ place ns w → length ns < names → settled ns w ≡ false
-  unfolding settled
+  pub settled-new : length ns ≤ place ns w → length ns < names → noneAdded ns w ≡ false
+  unfolding noneAdded
   settled-new l m = rw (le-ltb (place ns w) (length ns) l, lt-leb names (length ns) m)
 
 -- where the word is new there is room
-unsettled-room : (ns : List Bytes) (w : Bytes) → settled ns w ≡ false → length ns < names
+unsettled-room : (ns : List Bytes) (w : Bytes) → noneAdded ns w ≡ false → length ns < names
 unsettled-room ns w e =
     either (leb names (length ns)) (λ t. clash (settled-full ns w (leb-true names (length ns) t)) e) (λ f. leb-false names (length ns) f)
 
@@ -189,7 +189,7 @@ module _ (area w : Bytes) (n a : ℕ) (first prior : List ℕ) (ix : Indexed (na
   size = names-length area n
 
   -- a name is found, or there is no room
-  settled-there : (a < n) ⊎ (eqb n names ≡ true) → settled ns w ≡ true
+  settled-there : (a < n) ⊎ (eqb n names ≡ true) → noneAdded ns w ≡ true
   settled-there =
       ⊎-elim (λ (l : a < n). settled-name ns w (omega (arith, size))) (λ e. settled-full ns w (omega (arith, size, eqb-true n names e)))
 
@@ -204,7 +204,7 @@ module _ (area w : Bytes) (n a : ℕ) (first prior : List ℕ) (ix : Indexed (na
   -- the word is new
   module _ (l : n ≤ a) (m : n < names) where
     -- nothing holds it back
-    fresh : settled ns w ≡ false
+    fresh : noneAdded ns w ≡ false
     fresh = settled-new ns w (omega (arith, size)) (omega (arith, size))
 
     -- its row is in the area
@@ -254,7 +254,7 @@ put-past at ys area k h l =
 -- a fine word entered into an area
 module _ (ns : List Bytes) (w area : Bytes) (f : Fine w) (long : nameArea ≤ length area) where
   -- the row of a new name lies within the area
-  row-fits : settled ns w ≡ false → length ns * nameBytes + length (padded w) ≤ nameArea
+  row-fits : noneAdded ns w ≡ false → length ns * nameBytes + length (padded w) ≤ nameArea
   row-fits e =
       let l : length ns < names = unsettled-room ns w e in
       omega (arith, length-padded w (f .0))
@@ -262,7 +262,7 @@ module _ (ns : List Bytes) (w area : Bytes) (f : Fine w) (long : nameArea ≤ le
   -- an area is as long after a word is entered
   pub entered-length : length (enteredArea ns w area) ≡ length area
   entered-length =
-      either (settled ns w) (λ e. ap length (area-kept ns w area e))
+      either (noneAdded ns w) (λ e. ap length (area-kept ns w area e))
       (λ e.
       let l : length ns * nameBytes + length (padded w) ≤ nameArea = row-fits e in
       ap length (area-new ns w area e) ∙ length-put (length ns * nameBytes) (padded w) area (omega arith))
@@ -270,7 +270,7 @@ module _ (ns : List Bytes) (w area : Bytes) (f : Fine w) (long : nameArea ≤ le
   -- and past the name area it is as it was
   pub entered-past : drop nameArea (enteredArea ns w area) ≡ drop nameArea area
   entered-past =
-      either (settled ns w) (λ e. ap (drop nameArea) (area-kept ns w area e))
+      either (noneAdded ns w) (λ e. ap (drop nameArea) (area-kept ns w area e))
       (λ e.
       let l : length ns * nameBytes + length (padded w) ≤ nameArea = row-fits e in
       ap (drop nameArea) (area-new ns w area e)
@@ -292,7 +292,7 @@ module _ (area w : Bytes) (n : ℕ) (long : nameArea ≤ length area) (f : Fine 
   olds = namesIn area n
 
   -- a new name stands in its row, and the others in theirs
-  named-new : settled olds w ≡ false → (i : ℕ) → i < length (olds ++ (w ∷ []))
+  named-new : noneAdded olds w ≡ false → (i : ℕ) → i < length (olds ++ (w ∷ []))
       → nameAt (put (length olds * nameBytes) (padded w) area) i ≡ getD (olds ++ (w ∷ [])) i []
   unfolding nameAt
   named-new e i l =
@@ -318,7 +318,7 @@ module _ (area w : Bytes) (n : ℕ) (long : nameArea ≤ length area) (f : Fine 
   -- so the names read from the area are those entered
   pub entered-names : namesIn (enteredArea olds w area) (length (entered olds w)) ≡ entered olds w
   entered-names =
-      either (settled olds w)
+      either (noneAdded olds w)
       (λ e.
       ap₂ (λ (s : Bytes) (ms : List Bytes). namesIn s (length ms)) (area-kept olds w area e) (entered-kept olds w e)
       ∙ ap (namesIn area) (names-length area n) ∙ sym (entered-kept olds w e))
@@ -335,7 +335,7 @@ rows-more ns w = nameRows-append ns (w ∷ []) ∙ ap (λ (r : List ℕ). nameRo
 pub entered-begun : (ns : List Bytes) (w old : Bytes) → AllFit ns
     → enteredArea ns w (begun (nameRows ns) old) ≡ begun (nameRows (entered ns w)) old
 entered-begun ns w old h =
-    either (settled ns w)
+    either (noneAdded ns w)
     (λ e. area-kept ns w (begun (nameRows ns) old) e ∙ ap (λ (ms : List Bytes). begun (nameRows ms) old) (sym (entered-kept ns w e)))
     (λ e.
     area-new ns w (begun (nameRows ns) old) e
@@ -347,7 +347,7 @@ entered-begun ns w old h =
 -- fine names stay fine
 pub entered-fine : (ns : List Bytes) (w : Bytes) → AllFine ns → Fine w → AllFine (entered ns w)
 entered-fine ns w h f =
-    either (settled ns w) (λ e. subst AllFine (sym (entered-kept ns w e)) h)
+    either (noneAdded ns w) (λ e. subst AllFine (sym (entered-kept ns w e)) h)
     (λ e. subst AllFine (sym (entered-new ns w e)) fine-more)
   where
     fine-more : AllFine (ns ++ (w ∷ []))

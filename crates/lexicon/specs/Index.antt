@@ -37,13 +37,13 @@ abbrev pub NameAt : (ℕ → ℕ) → Bytes → ℕ → ℕ → Type 0
 NameAt fold text at len = (at + len ≤ length text) × (isName fold (part at len text) ≡ true)
 
 -- w is one of the names, or there is no room for another
-unfoldable pub settled : List Bytes → Bytes → Bool
-settled ns w = ltb (place ns w) (length ns) || leb names (length ns)
+unfoldable pub noneAdded : List Bytes → Bytes → Bool
+noneAdded ns w = ltb (place ns w) (length ns) || leb names (length ns)
 
 -- the names after w is met, where there is room
 unfoldable pub entered : List Bytes → Bytes → List Bytes
-entered ns w = pick (settled ns w) ns (ns ++ (w ∷ []))
+entered ns w = pick (noneAdded ns w) ns (ns ++ (w ∷ []))
 
 -- the name area then: a new name's row follows the others
 unfoldable pub enteredArea : List Bytes → Bytes → Bytes → Bytes
-enteredArea ns w area = pick (settled ns w) area (put (length ns * nameBytes) (padded w) area)
+enteredArea ns w area = pick (noneAdded ns w) area (put (length ns * nameBytes) (padded w) area)

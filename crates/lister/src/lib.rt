@@ -1,7 +1,7 @@
 // A book listed in areas of its own, and what the lister prints of it.
 use limits::Book;
 ghost use mathlib.Core.Path.{_≡_};
-ghost use Rattle.grammar.specs.Bytes.{folded};
+ghost use Rattle.grammar.specs.Bytes.{ourLetters};
 ghost use Rattle.tables.specs.Reading.{bookOf};
 ghost use Rattle.solver.specs.End.{listedEnd};
 ghost use Rattle.hosting.specs.List.{listCall};
@@ -19,8 +19,8 @@ pub struct Verdict {
 // Solves the book in areas on its own stack; only the listing area is lent.
 pub fn list(text: &[u8], folds: usize, listing: &mut [u8]) -> Verdict
     ensures listed { λ r. ⌜ record { number = r .number; line = r .line; listing = now (listing .exit) }
-        ≡ listCall folded (now (text .entry)) folds (now (listing .entry)) ⌝ }
-    ensures end { λ r. ⌜ r .end ≡ listedEnd (r .number) (bookOf folded (now (text .entry))) folds ⌝ }
+        ≡ listCall ourLetters (now (text .entry)) folds (now (listing .entry)) ⌝ }
+    ensures end { λ r. ⌜ r .end ≡ listedEnd (r .number) (bookOf ourLetters (now (text .entry))) folds ⌝ }
 {
     let mut spellings = [0u8; Book::NAME_AREA];
     let mut heads = [0u16; Book::RULES];
@@ -51,7 +51,7 @@ pub fn list(text: &[u8], folds: usize, listing: &mut [u8]) -> Verdict
 
 // Lays out what the lister prints of a book, its listing after 8 folds or the line of its refusal, and returns how many bytes that is.
 pub fn print(text: &[u8], out: &mut [u8; Book::LISTING_BYTES]) -> usize
-    ensures { λ r. ⌜ record { count = r; area = now (out .exit) } ≡ printCall folded (now (text .entry)) ⌝ }
+    ensures { λ r. ⌜ record { count = r; area = now (out .exit) } ≡ printCall ourLetters (now (text .entry)) ⌝ }
 {
     let r = list(text, Book::FOLDS, out);
     if r.number == 0 {

@@ -27,7 +27,7 @@ use Rattle.systems.proofs.Running.{length-model, model-same, model-joined}
 use Rattle.systems.proofs.Bridge.{size-in, head-in, body-in, formed-limits, formed-entry, formed-program}
 use Rattle.ways.specs.Ways.{severalNames}
 use Rattle.ways.proofs.Counts.{row-rule}
-use Rattle.placing.specs.Partial.{allUpTo, anyUpTo, startUpTo, withRow, withRows, Ready, Filled}
+use Rattle.placing.specs.Partial.{allUpTo, anyUpTo, startUpTo, withRow, withRows, PlacingReady, Filled}
 use Rattle.placing.proofs.Overwriting.{rows-long, rows-kept, rows-changed, rows-joined}
 use Rattle.placing.proofs.Steps.{all-start, any-start, start-start, all-end, any-end, start-end, helper-next, helper-same, any-head, any-other, any-same, start-same, start-home, all-other, all-home, all-same}
 
@@ -62,7 +62,7 @@ pub record Housed (p : Program) (j home helper : ℕ) (any₀ any : List ℕ) : 
   pub any-long : length any ≡ length any₀
   pub any-rows : any ≡ withRows p (anyUpTo p (suc j)) any₀
 
-module _ {tables : RuleTables} {counts : Counts} {marked : List ℕ} {o : RowAreas} (ready : Ready tables counts marked o) where
+module _ {tables : RuleTables} {counts : Counts} {marked : List ℕ} {o : RowAreas} (ready : PlacingReady tables counts marked o) where
   abbrev heads : List ℕ
   heads = tables .heads
 

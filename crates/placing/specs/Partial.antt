@@ -40,7 +40,7 @@ abbrev pub withRows : Program → (ℕ → Set) → List ℕ → List ℕ
 withRows p rows area = begun (packed rowWords (standard p .atoms) rows) area
 
 -- Tables in order, with the names that have several rules marked, and the rows before any rule is placed.
-pub record Ready (tables : RuleTables) (counts : Counts) (marked : List ℕ) (o : RowAreas) : Type 0 where
+pub record PlacingReady (tables : RuleTables) (counts : Counts) (marked : List ℕ) (o : RowAreas) : Type 0 where
   pub formed : formedTables tables counts ≡ true
   pub few : standard (programIn tables counts) .atoms ≤ atoms
   pub long : StandardLong tables o

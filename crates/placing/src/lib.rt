@@ -11,7 +11,7 @@ ghost use Rattle.tables.specs.Areas.{filled, programIn};
 ghost use Rattle.tables.specs.Begun.{begun};
 ghost use Rattle.systems.specs.Rows.{rowIn, packed};
 ghost use Rattle.systems.specs.Rounds.{modelIn, withModel};
-ghost use Rattle.placing.specs.Partial.{withRow, Ready, Filled};
+ghost use Rattle.placing.specs.Partial.{withRow, PlacingReady, Filled};
 
 // Each of the first `count` rows is its own atom alone.
 fn alone(all: &mut [u64], count: usize)
@@ -46,10 +46,13 @@ pub fn begin(count: usize, all: &mut [u64], any: &mut [u64], model: &mut [u64], 
 
 // Rule j at its home: its body becomes the home's row; where it has none, the home joins the start set. Returns whether it has a body.
 fn place(bodies: &[u64], j: usize, home: usize, all: &mut [u64], model: &mut [u64]) -> bool
-    requires { ⌜ (j < rules) × (home < atoms) × (bodyArea ≤ length (now bodies)) × (rowArea ≤ length (now all)) × (rowWords ≤ length (now model)) ⌝ }
+    requires { ⌜ (j < rules) × (home < atoms) × (bodyArea ≤ length (now bodies)) × (rowArea ≤ length (now all))
+        × (rowWords ≤ length (now model)) ⌝ }
     ensures body { λ r. ⌜ r ≡ exists (bodyWords * wordBits) (rowIn bodyWords (now (bodies .entry)) j) ⌝ }
-    ensures all { λ r. ⌜ now (all .exit) ≡ pick r (withRow home (rowIn bodyWords (now (bodies .entry)) j) (now (all .entry))) (now (all .entry)) ⌝ }
-    ensures model { λ r. ⌜ now (model .exit) ≡ pick r (now (model .entry)) (withModel (union (modelIn (now (model .entry))) (only home)) (now (model .entry))) ⌝ }
+    ensures all { λ r. ⌜ now (all .exit)
+        ≡ pick r (withRow home (rowIn bodyWords (now (bodies .entry)) j) (now (all .entry))) (now (all .entry)) ⌝ }
+    ensures model { λ r. ⌜ now (model .exit)
+        ≡ pick r (now (model .entry)) (withModel (union (modelIn (now (model .entry))) (only home)) (now (model .entry))) ⌝ }
 {
     let from = Book::body_at(j);
     if rows::read::empty(bodies, from, Book::BODY_WORDS) {
@@ -73,7 +76,7 @@ pub fn fill(
     any: &mut [u64],
     model: &mut [u64],
 ) -> usize
-    requires { ⌜ Ready (record { heads = now heads; bodies = now bodies }) (record { names = n; rules = m }) (now several)
+    requires { ⌜ PlacingReady (record { heads = now heads; bodies = now bodies }) (record { names = n; rules = m }) (now several)
         (record { all = now all; any = now any; model = now model }) ⌝ }
     ensures { λ r. ⌜ Filled
         (programIn (record { heads = now (heads .entry); bodies = now (bodies .entry) }) (record { names = n; rules = m })) r

@@ -9,7 +9,7 @@ use Rattle.sets.specs.Set.{Set, within, pick, meets}
 use Rattle.sets.specs.Steps.{after}
 use Rattle.sets.proofs.Logic.{iff, and-left, and-right, and-make}
 use Rattle.sets.proofs.Tests.{exists-make, exists-find, within-at, within-make}
-use Rattle.program.specs.System.{System, anyHead, allStep, round, unfoldOnce, unfolded, folded}
+use Rattle.program.specs.System.{System, anyHead, allStep, round, unfoldOnce, rowsAfter, folded}
 
 -- one fold: new row i lies within v where each old row j does, for all j in old row i
 pub fold-composes : (m : ℕ) (rows : ℕ → Set) (v : Set) (i : ℕ) → allStep m (unfoldOnce m rows) v i ≡ allStep m rows (allStep m rows v) i
@@ -32,15 +32,15 @@ after-add zero b F v = ap (λ (t : ℕ). after t F v) (zero-add b)
 after-add (suc a) b F v = ap (λ (t : ℕ). after t F v) (suc-add a b) ∙ ap F (after-add a b F v)
 
 -- k folds
-pub folds-compose : (k m : ℕ) (rows : ℕ → Set) (v : Set) → allStep m (unfolded k m rows) v ≡ after (2 ^ k) (allStep m rows) v
-unfolding unfolded
+pub folds-compose : (k m : ℕ) (rows : ℕ → Set) (v : Set) → allStep m (rowsAfter k m rows) v ≡ after (2 ^ k) (allStep m rows) v
+unfolding rowsAfter
 folds-compose zero m rows v = unfold after in refl
 folds-compose (suc k) m rows v =
     let A : Set → Set = allStep m rows in
-    let B : Set → Set = allStep m (unfolded k m rows) in
+    let B : Set → Set = allStep m (rowsAfter k m rows) in
     let N : ℕ = 2 ^ k in
     let twice : N * 2 ≡ N + N = omega arith in
-    fun-ext (λ i. fold-composes m (unfolded k m rows) v i) ∙ folds-compose k m rows (B v)
+    fun-ext (λ i. fold-composes m (rowsAfter k m rows) v i) ∙ folds-compose k m rows (B v)
     ∙ ap (λ (w : Set). after N A w) (folds-compose k m rows v) ∙ sym (after-add N N A v)
     ∙ ap (λ (t : ℕ). after t A v) (sym (pow-suc 2 k ∙ twice))
 

@@ -13,7 +13,7 @@ use Rattle.sets.proofs.Logic.{either, clash, iff, and-left, and-right, and-make
 use Rattle.sets.proofs.Tests.{exists-none, within-at, within-make, meets-make, meets-find, within-same, only-within}
 use Rattle.sets.proofs.Counting.{image-make, image-find}
 use Rattle.program.specs.Program.{Program, WellFormed, Model, InEveryModel, size, headAt, bodyAt, plainHeld}
-use Rattle.program.specs.System.{System, anyHead, allStep, round, folded, unfolded, heldBy}
+use Rattle.program.specs.System.{System, anyHead, allStep, round, folded, rowsAfter, heldBy}
 use Rattle.program.specs.Standard.{several, helper, home, hasBody, countedAtoms, allRow, anyRow, startSet, standard}
 use Rattle.program.proofs.Homes.{home-several, home-single, helper-past, helper-below, helper-one, names-below, home-below, any-make, any-find, head-make, home-no-head}
 use Rattle.program.proofs.Atoms.{start-home, bears, regular}
@@ -112,7 +112,7 @@ module _ (p : Program) (formed : WellFormed p) where
       ∙ only-within atoms i (spread M) l) ∙ w))
 
   least : Least atoms (round (standard p)) (startSet p) (heldBy (standard p))
-  unfolding unfolded
+  unfolding rowsAfter
   least = held-least (standard p) (regular p formed) 0
 
   -- the names held lie in every model

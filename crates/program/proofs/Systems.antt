@@ -6,7 +6,7 @@ use lib.Pow.{suc-ones}
 use Rattle.sets.specs.Set.{Set, Within, Same}
 use Rattle.sets.specs.Steps.{Least, rounds, reached, First}
 use Rattle.sets.proofs.Rounds.{reached-least, rounds-first}
-use Rattle.program.specs.System.{System, Regular, round, unfolded, folded, roundsOf, heldBy, c, h}
+use Rattle.program.specs.System.{System, Regular, round, rowsAfter, folded, roundsOf, heldBy, c, h}
 use Rattle.program.proofs.Folds.{roundBy, round-folded}
 use Rattle.program.proofs.Alike.{alike, start-round, round-mono}
 use Rattle.program.proofs.Bounds.{rounds-few, rounds-two}
@@ -24,7 +24,7 @@ module _ (s : System) (reg : Regular s) (k : ℕ) where
 
   -- what the rounds reach is the same set for every number of folds
   pub held-alike : Same m (heldBy (folded k s)) (heldBy s)
-  unfolding heldBy unfolded
+  unfolding heldBy rowsAfter
   held-alike =
       let plain : roundBy s 1 ≡ round s = sym (round-folded s 0) in
       subst (λ (F : Set → Set). Same m (reached m F (s .start)) (reached m (round s) (s .start))) steps

@@ -8,7 +8,7 @@ use lib.Dec.{leb}
 use Rattle.sets.specs.Set.{Set, Within, Same, count}
 use Rattle.sets.specs.Steps.{First, Least, after}
 use Rattle.program.specs.Program.{Program, Model, InEveryModel, size, headAt, plainHeld, plainRounds}
-use Rattle.program.specs.System.{System, allStep, round, unfoldOnce, unfolded, folded, roundsOf, heldBy, c, h}
+use Rattle.program.specs.System.{System, allStep, round, unfoldOnce, rowsAfter, folded, roundsOf, heldBy, c, h}
 use Rattle.program.specs.Standard.{ways, several, helper, hasBody, anyRow, standard, Bears, Alone}
 
 -- The plain route reaches a model that lies in every model, in at most n + 1 rounds.
@@ -20,7 +20,7 @@ pub record PlainRoute (p : Program) : Type 0 where
 -- One fold composes the step over rows with itself, row by row, and k folds are 2 to the power k steps: for any rows.
 pub record Composes (m : ℕ) (rows : ℕ → Set) : Type 0 where
   pub once : (v : Set) (i : ℕ) → allStep m (unfoldOnce m rows) v i ≡ allStep m rows (allStep m rows v) i
-  pub times : (k : ℕ) (v : Set) (i : ℕ) → allStep m (unfolded k m rows) v i ≡ after (2 ^ k) (allStep m rows) v i
+  pub times : (k : ℕ) (v : Set) (i : ℕ) → allStep m (rowsAfter k m rows) v i ≡ after (2 ^ k) (allStep m rows) v i
 
 -- A system after k folds holds what it holds without, loses no start atom, and keeps the two bounds.
 pub record AfterFolds (s : System) (k : ℕ) : Type 0 where

@@ -21,8 +21,8 @@ pub record Program : Type 0 where
   pub rules : List (Rule ℕ)
 
 -- what stands past the last rule
-abbrev pub blank : Rule ℕ
-blank = record { head = 0; body = emptySet }
+abbrev pub noRule : Rule ℕ
+noRule = record { head = 0; body = emptySet }
 
 -- the number of rules
 abbrev pub size : Program → ℕ
@@ -30,11 +30,11 @@ size p = length (p .rules)
 
 -- the head of rule j
 abbrev pub headAt : Program → ℕ → ℕ
-headAt p j = getD (p .rules) j blank .head
+headAt p j = getD (p .rules) j noRule .head
 
 -- the body of rule j
 abbrev pub bodyAt : Program → ℕ → Set
-bodyAt p j = getD (p .rules) j blank .body
+bodyAt p j = getD (p .rules) j noRule .body
 
 -- heads and body members are names of the program: what document 01 asks of tables that are not ill formed
 pub record WellFormed (p : Program) : Type 0 where

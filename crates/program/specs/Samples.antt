@@ -10,13 +10,13 @@ use Rattle.program.specs.System.{System, c, h, folded, roundsOf, heldBy}
 use Rattle.program.specs.Standard.{standard}
 
 -- the set of the numbers listed
-unfoldable pub listed : List ℕ → Set
-listed [] k = false
-listed (x ∷ xs) k = eqb x k || listed xs k
+unfoldable pub setOf : List ℕ → Set
+setOf [] k = false
+setOf (x ∷ xs) k = eqb x k || setOf xs k
 
 -- a rule by its head and the names of its body
 abbrev pub rule : ℕ → List ℕ → Rule ℕ
-rule a b = record { head = a; body = listed b }
+rule a b = record { head = a; body = setOf b }
 
 -- what a book answers after some folds
 pub record Run : Type 0 where
@@ -24,13 +24,13 @@ pub record Run : Type 0 where
   pub rounds : ℕ
 
 -- k folds take r rounds
-abbrev pub run : ℕ → ℕ → Run
-run k r = record { folds = k; rounds = r }
+abbrev pub taking : ℕ → ℕ → Run
+taking k r = record { folds = k; rounds = r }
 
 -- the same number of rounds for every fold number from k down to 0
 unfoldable pub upTo : ℕ → ℕ → List Run
-upTo zero r = run 0 r ∷ []
-upTo (suc k) r = run (suc k) r ∷ upTo k r
+upTo zero r = taking 0 r ∷ []
+upTo (suc k) r = taking (suc k) r ∷ upTo k r
 
 -- a book's rules, its held names, its runs, c and h
 pub record Sample : Type 0 where
@@ -44,7 +44,7 @@ pub record Sample : Type 0 where
 unfoldable pub runAgrees : Sample → Run → Bool
 runAgrees b r =
     let s : System = folded (r .folds) (standard (b .book)) in
-    eqb (roundsOf s) (r .rounds) && same (b .book .names) (heldBy s) (listed (b .held))
+    eqb (roundsOf s) (r .rounds) && same (b .book .names) (heldBy s) (setOf (b .held))
 
 -- those of each run
 unfoldable pub runsAgree : Sample → List Run → Bool
@@ -54,7 +54,7 @@ runsAgree b (r ∷ rs) = runAgrees b r && runsAgree b rs
 -- rounds and held names of every run, held names by the plain route, c and h
 unfoldable pub agrees : Sample → Bool
 agrees b =
-    runsAgree b (b .runs) && (same (b .book .names) (plainHeld (b .book)) (listed (b .held))
+    runsAgree b (b .runs) && (same (b .book .names) (plainHeld (b .book)) (setOf (b .held))
     && (eqb (c (standard (b .book))) (b .counted) && eqb (h (standard (b .book))) (b .heads)))
 
 -- every sample of a table

@@ -32,14 +32,14 @@ unfoldable pub unfoldOnce : ℕ → (ℕ → Set) → ℕ → Set
 unfoldOnce m rows i k = exists m (λ j. rows i j && rows j k)
 
 -- "All" rows after k folds. "Any" rows are not folded.
-unfoldable pub unfolded : ℕ → ℕ → (ℕ → Set) → ℕ → Set
-unfolded zero m rows = rows
-unfolded (suc k) m rows = unfoldOnce m (unfolded k m rows)
+unfoldable pub rowsAfter : ℕ → ℕ → (ℕ → Set) → ℕ → Set
+rowsAfter zero m rows = rows
+rowsAfter (suc k) m rows = unfoldOnce m (rowsAfter k m rows)
 
 -- the system after k folds
 abbrev pub folded : ℕ → System → System
 folded k s =
-    record { atoms = s .atoms; all = unfolded k (s .atoms) (s .all); any = s .any; start = s .start; counted = s .counted }
+    record { atoms = s .atoms; all = rowsAfter k (s .atoms) (s .all); any = s .any; start = s .start; counted = s .counted }
 
 -- the rounds from the start set
 unfoldable pub roundsOf : System → ℕ

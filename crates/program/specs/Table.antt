@@ -6,7 +6,7 @@ use mathlib.Core.List.{List, [], _∷_}
 use Rattle.sets.specs.Set.{same}
 use Rattle.program.specs.System.{System, folded}
 use Rattle.program.specs.Standard.{standard}
-use Rattle.program.specs.Samples.{Sample, sample, rule, run, upTo, listed}
+use Rattle.program.specs.Samples.{Sample, sample, rule, taking, upTo, setOf}
 
 -- no rule at all
 abbrev pub emptyBook : Sample
@@ -22,28 +22,28 @@ selfBook = sample 1 (rule 0 (0 ∷ []) ∷ []) [] (upTo 8 1) 1 0
 
 -- p:q/q:p
 abbrev pub pairBook : Sample
-pairBook = sample 2 (rule 0 (1 ∷ []) ∷ rule 1 (0 ∷ []) ∷ []) [] (run 0 1 ∷ run 8 1 ∷ []) 2 0
+pairBook = sample 2 (rule 0 (1 ∷ []) ∷ rule 1 (0 ∷ []) ∷ []) [] (taking 0 1 ∷ taking 8 1 ∷ []) 2 0
 
 -- x:y z/y:
 abbrev pub undefinedBook : Sample
-undefinedBook = sample 3 (rule 0 (1 ∷ 2 ∷ []) ∷ rule 1 [] ∷ []) (1 ∷ []) (run 0 1 ∷ run 1 1 ∷ []) 1 0
+undefinedBook = sample 3 (rule 0 (1 ∷ 2 ∷ []) ∷ rule 1 [] ∷ []) (1 ∷ []) (taking 0 1 ∷ taking 1 1 ∷ []) 1 0
 
 -- d:c/c:b/b:a/a:
 abbrev pub chainBook : Sample
 chainBook =
     sample 4 (rule 0 (1 ∷ []) ∷ rule 1 (2 ∷ []) ∷ rule 2 (3 ∷ []) ∷ rule 3 [] ∷ []) (0 ∷ 1 ∷ 2 ∷ 3 ∷ [])
-    (run 0 4 ∷ run 1 3 ∷ run 2 2 ∷ []) 3 0
+    (taking 0 4 ∷ taking 1 3 ∷ taking 2 2 ∷ []) 3 0
 
 -- p:q/q:p r/r:s/s:
 abbrev pub looseBook : Sample
 looseBook =
-    sample 4 (rule 0 (1 ∷ []) ∷ rule 1 (0 ∷ 2 ∷ []) ∷ rule 2 (3 ∷ []) ∷ rule 3 [] ∷ []) (2 ∷ 3 ∷ []) (run 0 2 ∷ []) 3 0
+    sample 4 (rule 0 (1 ∷ []) ∷ rule 1 (0 ∷ 2 ∷ []) ∷ rule 2 (3 ∷ []) ∷ rule 3 [] ∷ []) (2 ∷ 3 ∷ []) (taking 0 2 ∷ []) 3 0
 
 -- p:q/q:p r/q:s/s:, the book that document 01 prints
 abbrev pub printedBook : Sample
 printedBook =
     sample 4 (rule 0 (1 ∷ []) ∷ rule 1 (0 ∷ 2 ∷ []) ∷ rule 1 (3 ∷ []) ∷ rule 3 [] ∷ []) (0 ∷ 1 ∷ 3 ∷ [])
-    (run 0 4 ∷ run 1 4 ∷ run 8 4 ∷ []) 3 1
+    (taking 0 4 ∷ taking 1 4 ∷ taking 8 4 ∷ []) 3 1
 
 -- p:q s t/q:p t/s:t/t:
 abbrev pub foldBook : Sample
@@ -52,17 +52,17 @@ foldBook =
 
 -- a:/a:b
 abbrev pub factAmongBook : Sample
-factAmongBook = sample 2 (rule 0 [] ∷ rule 0 (1 ∷ []) ∷ []) (0 ∷ []) (run 0 2 ∷ []) 1 1
+factAmongBook = sample 2 (rule 0 [] ∷ rule 0 (1 ∷ []) ∷ []) (0 ∷ []) (taking 0 2 ∷ []) 1 1
 
 -- P:q/Q:
 abbrev pub capitalBook : Sample
-capitalBook = sample 2 (rule 0 (1 ∷ []) ∷ rule 1 [] ∷ []) (0 ∷ 1 ∷ []) (run 0 2 ∷ []) 1 0
+capitalBook = sample 2 (rule 0 (1 ∷ []) ∷ rule 1 [] ∷ []) (0 ∷ 1 ∷ []) (taking 0 2 ∷ []) 1 0
 
 -- a:b/b:c/c:a/a:
 abbrev pub heldLoopBook : Sample
 heldLoopBook =
     sample 3 (rule 0 (1 ∷ []) ∷ rule 1 (2 ∷ []) ∷ rule 2 (0 ∷ []) ∷ rule 0 [] ∷ []) (0 ∷ 1 ∷ 2 ∷ [])
-    (run 0 5 ∷ run 1 4 ∷ run 2 3 ∷ []) 3 1
+    (taking 0 5 ∷ taking 1 4 ∷ taking 2 3 ∷ []) 3 1
 
 abbrev pub samples : List Sample
 samples =
@@ -73,4 +73,4 @@ samples =
 unfoldable pub foldedRows : Bool
 foldedRows =
     let s : System = folded 1 (standard (foldBook .book)) in
-    same 4 (s .all 0) (listed (0 ∷ 3 ∷ [])) && same 4 (s .all 1) (listed (1 ∷ 2 ∷ 3 ∷ []))
+    same 4 (s .all 0) (setOf (0 ∷ 3 ∷ [])) && same 4 (s .all 1) (setOf (1 ∷ 2 ∷ 3 ∷ []))

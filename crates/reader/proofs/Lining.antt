@@ -17,7 +17,7 @@ use Rattle.tables.specs.Reading.{refused, taken, readLines, marked, ended}
 use Rattle.tables.proofs.Judging.{marked-find, ended-find}
 use Rattle.tables.proofs.Loop.{read-end, read-on, read-stop}
 use Rattle.scan.specs.Places.{pastAt}
-use Rattle.clause.specs.Line.{Closed, lineAt}
+use Rattle.clause.specs.Line.{LineEnds, lineAt}
 use Rattle.clause.proofs.Rows.{kept-on}
 use Rattle.reader.specs.State.{Tables, Booked, Stayed, Stepped, Lined, allLines, formAt}
 use Rattle.reader.proofs.Stepping.{stayed-same}
@@ -86,7 +86,7 @@ module _ (fold : ℕ → ℕ) (t : Bytes) (at line : ℕ) (x y : Tables) (g : Go
     tail-ended = cut.closed-some (drop at t) (g .closed) (omega (arith, length-drop at t))
 
     -- the line here has its end
-    pub going-closed : Closed t at
+    pub going-closed : LineEnds t at
     going-closed = (
       run notEnd (drop at t),
       drop (span notEnd (drop at t) + 1) (drop at t),

@@ -27,7 +27,7 @@ use Rattle.tables.specs.Begun.{begun}
 use Rattle.tables.proofs.Numbering.{meets-met, names-more, numbered-more, heads-append, bodies-append, heads-length, bodies-length}
 use Rattle.tables.proofs.Loop.{cause-rules, cause-names, cause-none, nonzero-fault}
 use Rattle.tables.proofs.Encoding.{put-begun}
-use Rattle.clause.specs.Line.{Closed, lineAt, headAt, unblank, faultOf}
+use Rattle.clause.specs.Line.{LineEnds, lineAt, formFrom, unblank, faultOf}
 use Rattle.clause.proofs.Forms.{closed-unblank, end-unblank}
 use Rattle.clause.proofs.Places.{end-here, in-text}
 use Rattle.clause.specs.Found.{Kept, Lexicon, namesAt, Named, InOrder, Ruled, Said, namesWith}
@@ -59,7 +59,7 @@ pub booked-ready : (cs : List Clause) (x : Tables) → Booked cs x → InOrder (
 booked-ready cs x b = subst (λ (ns : List Bytes). Named ns (x .lexicon)) (sym (b .named .there)) (b .named)
 
 -- the end of a line, and its number, leave room for one more
-pub end-room : (t : Bytes) (i line end next : ℕ) → Closed t i → length t ≤ textBytes → line ≤ i → end ≡ pastAt notEnd t i → next ≡ line
+pub end-room : (t : Bytes) (i line end next : ℕ) → LineEnds t i → length t ≤ textBytes → line ≤ i → end ≡ pastAt notEnd t i → next ≡ line
     → (end < textBytes) × (next < textBytes)
 unfolding notEnd
 end-room t i line end next k l b e q = (omega (arith, in-text t i k notEnd refl), omega (arith, in-text t i k notEnd refl))
@@ -207,12 +207,12 @@ fault-cause (rule c) cs n = absurd (n refl)
 fault-cause (fault k) cs n = refl
 
 -- The line at place i with number `line`, its head at place h.
-module _ (fold : ℕ → ℕ) (law : Folding fold) (t : Bytes) (i line h : ℕ) (k : Closed t i) (z : starts hash (drop i t) ≡ false) (q : h ≡ unblank t i) where
-  pub head-closed : Closed t h
-  head-closed = subst (Closed t) (sym q) (closed-unblank fold law t i k)
+module _ (fold : ℕ → ℕ) (law : Folding fold) (t : Bytes) (i line h : ℕ) (k : LineEnds t i) (z : starts hash (drop i t) ≡ false) (q : h ≡ unblank t i) where
+  pub head-closed : LineEnds t h
+  head-closed = subst (LineEnds t) (sym q) (closed-unblank fold law t i k)
 
-  form-head : formAt fold t i ≡ headAt fold t h
-  form-head = headed fold law t i k z ∙ ap (headAt fold t) (sym q)
+  form-head : formAt fold t i ≡ formFrom fold t h
+  form-head = headed fold law t i k z ∙ ap (formFrom fold t) (sym q)
 
   pub head-end : pastAt notEnd t h ≡ pastAt notEnd t i
   head-end = ap (pastAt notEnd t) q ∙ end-unblank fold law t i k
@@ -231,16 +231,16 @@ module _ (fold : ℕ → ℕ) (law : Folding fold) (t : Bytes) (i line h : ℕ) 
     pub stepped-fault : (number ≡ 0 → ⊥) → (cs : List Clause) (at next : ℕ) (w : Tables) → Stepped fold cs t i line number at next w
     stepped-fault o cs at next w =
         stepped-refused fold cs t i line number at next w
-        (s .judged ∙ fault-cause (headAt fold t h) cs (λ p. o (s .judged ∙ p)) ∙ ap (lineCause cs) (sym form-head)) o
+        (s .judged ∙ fault-cause (formFrom fold t h) cs (λ p. o (s .judged ∙ p)) ∙ ap (lineCause cs) (sym form-head)) o
 
     module _ (o : number ≡ 0) where
       -- a rule
-      saying : {X : Type 0} → ((c : Clause) → headAt fold t h ≡ rule c → X) → X
+      saying : {X : Type 0} → ((c : Clause) → formFrom fold t h ≡ rule c → X) → X
       saying g =
-          by-rule (headAt fold t h) (sym (s .judged) ∙ o) (not-silent fold law t h head-closed e)
+          by-rule (formFrom fold t h) (sym (s .judged) ∙ o) (not-silent fold law t h head-closed e)
           (λ j p. nonzero-fault fold (classified fold law) (lineAt t i) j (classified fold law .forms (lineAt t i) (fault j) .1 (form-head ∙ p))) g
 
-      cause-of : (cs : List Clause) (c : Clause) → headAt fold t h ≡ rule c → lineCause cs (rule c) ≡ lineCause cs (formAt fold t i)
+      cause-of : (cs : List Clause) (c : Clause) → formFrom fold t h ≡ rule c → lineCause cs (rule c) ≡ lineCause cs (formAt fold t i)
       cause-of cs c p = ap (lineCause cs) (sym (form-head ∙ p))
 
       -- the line's end

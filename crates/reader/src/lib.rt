@@ -17,12 +17,12 @@ ghost use lib.ListN.{length, set};
 ghost use Rattle.limits.specs.Book.{textBytes, names, nameBytes, rules, bodyWords, nameArea, bodyArea};
 ghost use Rattle.words.specs.Row.{put};
 ghost use Rattle.rows.specs.Clear.{cleared};
-ghost use Rattle.grammar.specs.Bytes.{folded, letters};
+ghost use Rattle.grammar.specs.Bytes.{ourLetters, letters};
 ghost use Rattle.grammar.specs.Grammar.{Clause};
 ghost use Rattle.scan.specs.Fold.{FoldTable};
 ghost use Rattle.tables.specs.Reading.{marked, ended, bookOf};
 ghost use Rattle.tables.specs.Areas.{outcome, readCall};
-ghost use Rattle.clause.specs.Line.{Closed};
+ghost use Rattle.clause.specs.Line.{LineEnds};
 ghost use Rattle.reader.specs.State.{tablesAt, Booked, Stayed, Stepped, Lined};
 
 // What a call returns: the number of the refusal with its line, 0 for none, and how many names and rules there are.
@@ -98,7 +98,7 @@ impl Reading {
         heads: &mut [u16],
         bodies: &mut [u64],
     ) -> Step
-        requires { ⌜ Closed (now text) (self .cursor .at) × (length (now text) ≤ textBytes) × (self .cursor .line ≤ self .cursor .at)
+        requires { ⌜ LineEnds (now text) (self .cursor .at) × (length (now text) ≤ textBytes) × (self .cursor .line ≤ self .cursor .at)
             × FoldTable (now table) ⌝ }
         requires { ⌜ ((cs : List Clause)
             × Booked cs (tablesAt (self .names) (self .rules) (now spellings) (now first) (now prior) (now heads) (now bodies))) ⌝ }
@@ -262,7 +262,7 @@ pub fn read(text: &[u8], spellings: &mut [u8], heads: &mut [u16], bodies: &mut [
       answer = record { number = r .number; line = r .line; names = r .names; rules = r .rules };
       areas = record { spellings = now (spellings .exit); heads = now (heads .exit); bodies = now (bodies .exit) };
     }
-        ≡ readCall folded (now (text .entry))
+        ≡ readCall ourLetters (now (text .entry))
         (record { spellings = now (spellings .entry); heads = now (heads .entry); bodies = now (bodies .entry) }) ⌝ }
 {
     if spellings.len() < Book::NAME_AREA

@@ -14,11 +14,11 @@ use Rattle.sets.proofs.Logic.{either, or-left, or-right, pick-true, pick-false}
 use Rattle.program.specs.System.{System, roundsOf, heldBy}
 use Rattle.systems.specs.Rows.{RowAreas, below, formedRows}
 use Rattle.systems.specs.Fold.{formedAll}
-use Rattle.systems.specs.Rounds.{modelIn, withModel, systemIn, shortSystem, formedSystem, startKept, roundsRefusal, runOf, roundsCall}
+use Rattle.systems.specs.Rounds.{modelIn, withModel, systemIn, shortSystem, formedSystem, startKept, roundsRefusal, roundsMade, roundsCall}
 use Rattle.systems.specs.Claims.{RoundsLong}
 use Rattle.systems.proofs.Running.{long-at, long-make, order-make, model-again, length-model, kept-test, runs}
 use Rattle.rowcheck.proofs.Counted.{none-past, some-past, passed}
-use Rattle.rounds.specs.Step.{nextSet, Ready}
+use Rattle.rounds.specs.Step.{nextSet, RoundsReady}
 use Rattle.rounds.proofs.Turns.{few, start-ends, made-round}
 
 module _ (o : RowAreas) where
@@ -104,7 +104,7 @@ module _ (o : RowAreas) (m : ℕ) where
 
   -- the areas are long enough, rows and start set in order: no start atom lost decides
   module _ (l : RoundsLong o) (formed : formedSystem o m ≡ true) where
-    past-tests : roundsCall o m ≡ pick (startKept s) (runOf s (o .model)) (roundsRefusal 11 (o .model))
+    past-tests : roundsCall o m ≡ pick (startKept s) (roundsMade s (o .model)) (roundsRefusal 11 (o .model))
     unfolding roundsCall
     past-tests = pick-false _ _ (long-make o l) ∙ pick-true _ _ formed
 
@@ -123,7 +123,7 @@ module _ (o : RowAreas) (m : ℕ) where
 
       module _ (k : not inside ≡ false) where
         -- the rounds may go on
-        pub ready : rowWords ≤ length room → Ready o after m
+        pub ready : rowWords ≤ length room → RoundsReady o after m
         ready b =
             let made : Set = below m (nextSet (o .all) (o .any) (o .model)) in
             record {
@@ -137,7 +137,7 @@ module _ (o : RowAreas) (m : ℕ) where
         -- the rounds: 0
         pub call-done : (t : ℕ) (out : List ℕ) → t ≡ roundsOf s → out ≡ withModel (below m (heldBy s)) (o .model)
             → record { number = 0; rounds = t; model = out } ≡ roundsCall o m
-        unfolding runOf
+        unfolding roundsMade
         call-done t out u v =
             ap₂ (λ (a : ℕ) (b : List ℕ). record { number = 0; rounds = a; model = b }) u v
             ∙ sym (past-tests ∙ pick-true _ _ (start-kept ∙ not-false inside k))

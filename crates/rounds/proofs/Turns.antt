@@ -16,7 +16,7 @@ use Rattle.systems.specs.Claims.{RoundsFormed}
 use Rattle.systems.proofs.Formed.{round-fewer}
 use Rattle.systems.proofs.Running.{model-known, Ends, in-order, round-mono, start-rises}
 use Rattle.systems.proofs.Turns.{Stepping, Turn, made, turn-begin, turn-count, turn-model, turn-next}
-use Rattle.rounds.specs.Step.{nextSet, Ready}
+use Rattle.rounds.specs.Step.{nextSet, RoundsReady}
 
 -- rows and start set in order
 module _ (o : RowAreas) (m : ℕ) (formed : formedSystem o m ≡ true) where
@@ -46,7 +46,7 @@ module _ (o : RowAreas) (m : ℕ) (formed : formedSystem o m ≡ true) where
   made-round v = made m (round (systemIn o m)) next-set few v (next-round v)
 
 -- the rounds rise from the start set
-pub stepping : (o : RowAreas) (next : List ℕ) (m : ℕ) → Ready o next m
+pub stepping : (o : RowAreas) (next : List ℕ) (m : ℕ) → RoundsReady o next m
     → Stepping m (round (systemIn o m)) (modelIn (o .model)) (nextSet (o .all) (o .any))
 stepping o next m p =
     let s : System = systemIn o m in
@@ -57,7 +57,7 @@ stepping o next m p =
       steps = next-round o m (p .formed);
     }
 
-module _ (o : RowAreas) (next₀ : List ℕ) (m : ℕ) (p : Ready o next₀ m) where
+module _ (o : RowAreas) (next₀ : List ℕ) (m : ℕ) (p : RoundsReady o next₀ m) where
   abbrev s : System
   s = systemIn o m
 

@@ -18,7 +18,7 @@ unfoldable pub nextSet : List ℕ → List ℕ → List ℕ → Set
 nextSet all any v = round (systemIn (record { all = all; any = any; model = v }) atoms) (modelIn v)
 
 -- The rounds may go on from round one: areas long enough, rows and start set in order, no start atom lost, and in `next` what round one makes.
-pub record Ready (o : RowAreas) (next : List ℕ) (m : ℕ) : Type 0 where
+pub record RoundsReady (o : RowAreas) (next : List ℕ) (m : ℕ) : Type 0 where
   pub long : RoundsLong o
   pub room : rowWords ≤ length next
   pub formed : formedSystem o m ≡ true

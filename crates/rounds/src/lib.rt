@@ -10,7 +10,7 @@ ghost use Rattle.systems.specs.Rows.{below};
 ghost use Rattle.program.specs.System.{roundsOf, heldBy};
 ghost use Rattle.systems.specs.Rounds.{withModel, systemIn, shortSystem, formedSystem, roundsCall};
 ghost use Rattle.systems.specs.Claims.{RoundsLong};
-ghost use Rattle.rounds.specs.Step.{nextSet, Ready};
+ghost use Rattle.rounds.specs.Step.{nextSet, RoundsReady};
 
 // The number of a refusal, 0 for none, and the rounds made.
 pub struct Answer {
@@ -60,7 +60,8 @@ fn joins(all: &[u64], any: &[u64], v: &[u64], i: usize) -> bool
 // One round over the first m atoms: `next` gets the set after v.
 fn step(all: &[u64], any: &[u64], v: &[u64], next: &mut [u64], m: usize)
     requires { ⌜ (m ≤ atoms) × RoundsLong (record { all = now all; any = now any; model = now v }) × (rowWords ≤ length (now next)) ⌝ }
-    ensures { λ r. ⌜ now (next .exit) ≡ withModel (below m (nextSet (now (all .entry)) (now (any .entry)) (now (v .entry)))) (now (next .entry)) ⌝ }
+    ensures { λ r. ⌜ now (next .exit)
+        ≡ withModel (below m (nextSet (now (all .entry)) (now (any .entry)) (now (v .entry)))) (now (next .entry)) ⌝ }
 {
     rows::clear::clear_tail64(next, 0, Book::ROW_WORDS);
     let mut i = 0;
@@ -74,8 +75,9 @@ fn step(all: &[u64], any: &[u64], v: &[u64], next: &mut [u64], m: usize)
 
 // The rounds from the model area on, `next` being the set after it: counted up to and with the first that changes nothing.
 fn until_still(all: &[u64], any: &[u64], model: &mut [u64], next: &mut [u64], m: usize) -> usize
-    requires { ⌜ Ready (record { all = now all; any = now any; model = now model }) (now next) m ⌝ }
-    ensures rounds { λ r. ⌜ r ≡ roundsOf (systemIn (record { all = now (all .entry); any = now (any .entry); model = now (model .entry) }) m) ⌝ }
+    requires { ⌜ RoundsReady (record { all = now all; any = now any; model = now model }) (now next) m ⌝ }
+    ensures rounds { λ r. ⌜ r
+        ≡ roundsOf (systemIn (record { all = now (all .entry); any = now (any .entry); model = now (model .entry) }) m) ⌝ }
     ensures model { λ r. ⌜ now (model .exit) ≡ withModel (below m (heldBy
         (systemIn (record { all = now (all .entry); any = now (any .entry); model = now (model .entry) }) m))) (now (model .entry)) ⌝ }
     ensures next { λ r. ⌜ now (next .exit) ≡ withModel (below m (heldBy

@@ -25,7 +25,7 @@ use Rattle.tables.specs.Claims.{Judged}
 use Rattle.tables.proofs.Numbering.{Distinct, same-bytes-eq, names-distinct, names-from, heads-length, bodies-length, book-low}
 use Rattle.tables.proofs.Encoding.{AllFine, length-nameRows, part-nameRows, name-at, names-filled, rules-filled, zero-all, zero-filled}
 use Rattle.tables.proofs.Good.{Good, good-fine, saying-good}
-use Rattle.roundtrip.specs.Claims.{textOf}
+use Rattle.roundtrip.specs.Claims.{writtenText}
 use Rattle.roundtrip.proofs.Walks.{book-met}
 use Rattle.roundtrip.proofs.Shorter.{written-shorter}
 
@@ -124,9 +124,9 @@ module _ (fold : ℕ → ℕ) where
 
     -- its tables are in order, and the text written from them is no longer
     pub book-again : (wellFormed fold (tablesOf cs old) (length (namesOf cs)) (length cs) ≡ true)
-        × (length (textOf (tablesOf cs old) (length (namesOf cs)) (length cs)) ≤ length t)
+        × (length (writtenText (tablesOf cs old) (length (namesOf cs)) (length cs)) ≤ length t)
     book-again =
-        let e : textOf (tablesOf cs old) (length (namesOf cs)) (length cs) ≡ written (namesOf cs) (map (numbered (namesOf cs)) cs) =
+        let e : writtenText (tablesOf cs old) (length (namesOf cs)) (length cs) ≡ written (namesOf cs) (map (numbered (namesOf cs)) cs) =
         ap₂ written (names-back cs old (book .fits) book-good) (rules-back cs old (book .fits) book-good)
         in
         (in-order cs old (book .fits) book-good, omega (arith, ap length e, written-shorter fold folding (namesOf cs) t cs book))
@@ -134,7 +134,7 @@ module _ (fold : ℕ → ℕ) where
   -- so are those of a text that is read
   pub again : Folding fold → Judged fold → (t : Bytes) (cs : List Clause) (old : Areas) → bookOf fold t ≡ read cs
       → (wellFormed fold (tablesOf cs old) (length (namesOf cs)) (length cs) ≡ true)
-      × (length (textOf (tablesOf cs old) (length (namesOf cs)) (length cs)) ≤ length t)
+      × (length (writtenText (tablesOf cs old) (length (namesOf cs)) (length cs)) ≤ length t)
   again folding judged t cs old e = book-again folding t cs old (judged .accepted t cs .0 e)
 
   -- tables that some book reads to are in order

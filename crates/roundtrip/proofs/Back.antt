@@ -36,7 +36,7 @@ use Rattle.tables.proofs.Encoding.{
   long-enough,
   filled-same,
 }
-use Rattle.roundtrip.specs.Claims.{Lent, textOf}
+use Rattle.roundtrip.specs.Claims.{Lent, writtenText}
 use Rattle.roundtrip.proofs.Written.{clauseOf, RulesBelow, written-book}
 use Rattle.roundtrip.proofs.Order.{met-bounds, rules-below, names-again, rules-again}
 
@@ -188,7 +188,7 @@ module _ (fold : ℕ → ℕ) (folding : Folding fold) (o : Areas) (n m : ℕ) (
   size = sym (length-map rs (clauseOf ns) ∙ length-rulesFrom o m 0)
 
   -- the written text is a book
-  pub book : Book fold (textOf o n m) written-clauses
+  pub book : Book fold (writtenText o n m) written-clauses
   book =
       written-book fold folding ns good rs below
       (record { rules-fit = omega (arith, size, parts .few-rules); names-fit = omega (arith, count, parts .few-names) })

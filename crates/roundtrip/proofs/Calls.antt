@@ -14,7 +14,7 @@ use Rattle.sets.proofs.Logic.{either, not-true}
 use Rattle.words.specs.Row.{Words, pack}
 use Rattle.words.proofs.Rows.{words-pack}
 use Rattle.words.proofs.Areas.{words-append, words-drop}
-use Rattle.grammar.specs.Bytes.{Bytes, Folding, folded}
+use Rattle.grammar.specs.Bytes.{Bytes, Folding, ourLetters}
 use Rattle.grammar.proofs.Folding.{folding as ours}
 use Rattle.grammar.specs.Grammar.{Clause}
 use Rattle.program.specs.Program.{Rule}
@@ -26,7 +26,7 @@ use Rattle.tables.specs.Claims.{accepted}
 use Rattle.tables.proofs.Numbering.{heads-length, bodies-length}
 use Rattle.tables.proofs.Encoding.{length-nameRows, length-filled, long-enough, not-short}
 use Rattle.tables.proofs.Theorems.{judged, read-calls, read-fits, read-good-at}
-use Rattle.roundtrip.specs.Claims.{textOf, ReadsTo, over, wrote, WriteCalls}
+use Rattle.roundtrip.specs.Claims.{writtenText, ReadsTo, over, wrote, WriteCalls}
 use Rattle.roundtrip.proofs.Theorems.{round-trip}
 use Rattle.roundtrip.proofs.Judging.{cramped, roomy, roomy-long, refused-one, refused-ten, in-place, placed-long, placed-fits, write-judges}
 
@@ -131,37 +131,37 @@ module _ (fold : ℕ → ℕ) (folding : Folding fold) where
         either (wellFormed fold o n m) (λ w. w)
         (λ w. absurd (differ _ 10 0 (ap (λ (x : Written). x .number) (refused-ten fold o n m area has-room w)) zero-number (λ q. omega (arith, q))))
 
-    fits : ltb textBytes (length (textOf o n m)) ≡ false
+    fits : ltb textBytes (length (writtenText o n m)) ≡ false
     fits =
-        not-true (ltb textBytes (length (textOf o n m)))
+        not-true (ltb textBytes (length (writtenText o n m)))
         (λ l.
-        differ _ 12 0 (ap (λ (x : Written). x .number) (in-place fold o n m area has-room in-order ∙ placed-long (textOf o n m) area l)) zero-number
+        differ _ 12 0 (ap (λ (x : Written). x .number) (in-place fold o n m area has-room in-order ∙ placed-long (writtenText o n m) area l)) zero-number
         (λ q. omega (arith, q)))
 
-    whole : writeCall fold o n m area ≡ wrote (length (textOf o n m)) (filled textBytes (textOf o n m) area)
-    whole = in-place fold o n m area has-room in-order ∙ placed-fits (textOf o n m) area fits
+    whole : writeCall fold o n m area ≡ wrote (length (writtenText o n m)) (filled textBytes (writtenText o n m) area)
+    whole = in-place fold o n m area has-room in-order ∙ placed-fits (writtenText o n m) area fits
 
   back : (o old : Areas) (n m size : ℕ) (area text : Bytes) → Words (o .bodies) → short old ≡ false
       → writeCall fold o n m area ≡ wrote size text → readCall fold (take size text) old ≡ accepted n m (over o old)
   back o old n m size area text words s e =
       let zero-number : writeCall fold o n m area .number ≡ 0 = ap (λ (x : Written). x .number) e in
-      let q : wrote size text ≡ wrote (length (textOf o n m)) (filled textBytes (textOf o n m) area) = sym e ∙ whole o n m area zero-number in
-      let same : take size text ≡ textOf o n m =
+      let q : wrote size text ≡ wrote (length (writtenText o n m)) (filled textBytes (writtenText o n m) area) = sym e ∙ whole o n m area zero-number in
+      let same : take size text ≡ writtenText o n m =
       ap₂ (λ (i : ℕ) (x : Bytes). take i x) (ap (λ (x : Written). x .size) q) (ap (λ (x : Written). x .text) q)
-      ∙ take-filled textBytes (textOf o n m) area
+      ∙ take-filled textBytes (writtenText o n m) area
       in
-      let r : ReadsTo fold (textOf o n m) o n m =
+      let r : ReadsTo fold (writtenText o n m) o n m =
       round-trip fold folding .back o n m (roomy-long o area (has-room o n m area zero-number), words) (in-order o n m area zero-number)
       in
       ap (λ (x : Bytes). readCall fold x old) same
-      ∙ read-calls fold folding .accepts (textOf o n m) old (over o old) n m .1 (
+      ∙ read-calls fold folding .accepts (writtenText o n m) old (over o old) n m .1 (
         r .cs,
         s,
-        ltb-false textBytes (length (textOf o n m)) (fits o n m area zero-number),
-        judged fold folding .accepted (textOf o n m) (r .cs) .0 (r .reads),
+        ltb-false textBytes (length (writtenText o n m)) (fits o n m area zero-number),
+        judged fold folding .accepted (writtenText o n m) (r .cs) .0 (r .reads),
         r .count,
         r .size,
-        over-tables (textOf o n m) (r .cs) (r .reads) o old (r .tables),
+        over-tables (writtenText o n m) (r .cs) (r .reads) o old (r .tables),
       )
 
   again : (t area : Bytes) (old o : Areas) (n m : ℕ) → Words (old .bodies) → textBytes ≤ length area → readCall fold t old ≡ accepted n m o
@@ -170,7 +170,7 @@ module _ (fold : ℕ → ℕ) (folding : Folding fold) where
   again t area old o n m words l e =
       let (cs, s, short-text, book, a, b, c) = read-calls fold folding .accepts t old o n m .0 e in
       let reads : bookOf fold t ≡ read cs = judged fold folding .accepted t cs .1 book in
-      let w : Bytes = textOf (tablesOf cs old) (length (namesOf cs)) (length cs) in
+      let w : Bytes = writtenText (tablesOf cs old) (length (namesOf cs)) (length cs) in
       let r = round-trip fold folding .again t cs old reads in
       let call : writeCall fold (tablesOf cs old) (length (namesOf cs)) (length cs) area ≡ wrote (length w) (filled textBytes w area) =
       in-place fold (tablesOf cs old) (length (namesOf cs)) (length cs) area
@@ -194,5 +194,5 @@ module _ (fold : ℕ → ℕ) (folding : Folding fold) where
   write-calls = record { written-read = back; read-written = again; judges = write-judges fold folding }
 
 -- with document 01's letters: demand 1 for the writer, and demand 2 between tables and text
-pub books-written : WriteCalls folded
-books-written = write-calls folded ours
+pub books-written : WriteCalls ourLetters
+books-written = write-calls ourLetters ours

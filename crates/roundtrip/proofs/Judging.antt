@@ -17,7 +17,7 @@ use Rattle.grammar.specs.Bytes.{Bytes, Folding}
 use Rattle.tables.specs.Areas.{Areas, short, filled}
 use Rattle.tables.specs.Writing.{Readable, Written, wellFormed, placed, writeCall}
 use Rattle.tables.proofs.Encoding.{long-enough, not-short}
-use Rattle.roundtrip.specs.Claims.{textOf, wrote, unwritten, WriteLong, WriteJudges}
+use Rattle.roundtrip.specs.Claims.{writtenText, wrote, unwritten, WriteLong, WriteJudges}
 use Rattle.roundtrip.proofs.Theorems.{round-trip}
 
 -- The ways out of the call.
@@ -44,7 +44,7 @@ module _ (fold : ℕ → ℕ) (o : Areas) (n m : ℕ) (area : Bytes) where
   unfolding writeCall
   refused-ten e f = pick-false _ _ e ∙ pick-false _ _ f
 
-  pub in-place : cramped o area ≡ false → wellFormed fold o n m ≡ true → writeCall fold o n m area ≡ placed (textOf o n m) area
+  pub in-place : cramped o area ≡ false → wellFormed fold o n m ≡ true → writeCall fold o n m area ≡ placed (writtenText o n m) area
   unfolding writeCall
   in-place e f = pick-false _ _ e ∙ pick-true _ _ f
 
@@ -105,7 +105,7 @@ module _ (fold : ℕ → ℕ) (o : Areas) (n m : ℕ) (area : Bytes) where
 
     module _ (readable : Readable fold o n m) where
       -- the text is too long
-      way-long : textBytes < length (textOf o n m) → Judges (unwritten 12 area)
+      way-long : textBytes < length (writtenText o n m) → Judges (unwritten 12 area)
       unfolding without
       way-long l = record {
         accepts = fails (λ z. omega arith) (λ p. omega (arith, p .2));
@@ -118,7 +118,7 @@ module _ (fold : ℕ → ℕ) (o : Areas) (n m : ℕ) (area : Bytes) where
       }
 
       -- it fits
-      way-wrote : length (textOf o n m) ≤ textBytes → Judges (wrote (length (textOf o n m)) (filled textBytes (textOf o n m) area))
+      way-wrote : length (writtenText o n m) ≤ textBytes → Judges (wrote (length (writtenText o n m)) (filled textBytes (writtenText o n m) area))
       unfolding without
       way-wrote l = record {
         accepts = holds refl (long, readable, l);
@@ -142,12 +142,12 @@ write-judges fold folding o n m area words =
     let exact = round-trip fold folding .exact o n m (roomy-long o area c, words) in
     either (wellFormed fold o n m)
     (λ w.
-    let is : writeCall fold o n m area ≡ placed (textOf o n m) area = in-place fold o n m area c w in
-    either (ltb textBytes (length (textOf o n m)))
+    let is : writeCall fold o n m area ≡ placed (writtenText o n m) area = in-place fold o n m area c w in
+    either (ltb textBytes (length (writtenText o n m)))
     (λ l.
-    subst Claim (sym (is ∙ placed-long (textOf o n m) area l))
-    (way-long fold o n m area long (exact .0 w) (ltb-true textBytes (length (textOf o n m)) l)))
+    subst Claim (sym (is ∙ placed-long (writtenText o n m) area l))
+    (way-long fold o n m area long (exact .0 w) (ltb-true textBytes (length (writtenText o n m)) l)))
     (λ l.
-    subst Claim (sym (is ∙ placed-fits (textOf o n m) area l))
-    (way-wrote fold o n m area long (exact .0 w) (ltb-false textBytes (length (textOf o n m)) l))))
+    subst Claim (sym (is ∙ placed-fits (writtenText o n m) area l))
+    (way-wrote fold o n m area long (exact .0 w) (ltb-false textBytes (length (writtenText o n m)) l))))
     (λ w. subst Claim (sym (refused-ten fold o n m area c w)) (way-ill fold o n m area long (λ r. clash (exact .1 r) w))))

@@ -18,8 +18,8 @@ use Rattle.tables.specs.Writing.{Readable, wellFormed, written, Written, writeC
 use Rattle.tables.specs.Claims.{accepted}
 
 -- the written text of the tables
-abbrev pub textOf : Areas → ℕ → ℕ → Bytes
-textOf o n m = written (namesIn (o .spellings) n) (rulesIn o m)
+abbrev pub writtenText : Areas → ℕ → ℕ → Bytes
+writtenText o n m = written (namesIn (o .spellings) n) (rulesIn o m)
 
 -- the text reads to the tables: n names, m rules, and every word of the three areas over their stated sizes
 pub record ReadsTo (fold : ℕ → ℕ) (t : Bytes) (o : Areas) (n m : ℕ) : Type 0 where
@@ -37,11 +37,11 @@ pub record RoundTrip (fold : ℕ → ℕ) : Type 0 where
   -- tables pass the test exactly where some book, of any length, reads to them
   pub exact : (o : Areas) (n m : ℕ) → Lent o → (wellFormed fold o n m ≡ true) ↔ Readable fold o n m
   -- the written text reads back to the same tables
-  pub back : (o : Areas) (n m : ℕ) → Lent o → wellFormed fold o n m ≡ true → ReadsTo fold (textOf o n m) o n m
+  pub back : (o : Areas) (n m : ℕ) → Lent o → wellFormed fold o n m ≡ true → ReadsTo fold (writtenText o n m) o n m
   -- the tables of a text that is read are in order, and their written text is no longer than it: 12 cannot occur
   pub again : (t : Bytes) (cs : List Clause) (old : Areas) → bookOf fold t ≡ read cs
       → (wellFormed fold (tablesOf cs old) (length (namesOf cs)) (length cs) ≡ true)
-      × (length (textOf (tablesOf cs old) (length (namesOf cs)) (length cs)) ≤ length t)
+      × (length (writtenText (tablesOf cs old) (length (namesOf cs)) (length cs)) ≤ length t)
 
 -- the tables of o over the stated sizes, and past them what old has
 unfoldable pub over : Areas → Areas → Areas
@@ -67,15 +67,15 @@ WriteLong o area =
 
 -- demand 1 for the writer: each number exactly where document 01 gives it, and what is left then; r is what the call returns and leaves
 pub record WriteJudges (fold : ℕ → ℕ) (o : Areas) (n m : ℕ) (area : Bytes) (r : Written) : Type 0 where
-  pub accepts : (r .number ≡ 0) ↔ (WriteLong o area × Readable fold o n m × (length (textOf o n m) ≤ textBytes))
+  pub accepts : (r .number ≡ 0) ↔ (WriteLong o area × Readable fold o n m × (length (writtenText o n m) ≤ textBytes))
   pub short : (r .number ≡ 1) ↔ (WriteLong o area → ⊥)
   -- "exactly when no book, were its length free, reads to these tables"
   pub ill-formed : (r .number ≡ 10) ↔ (WriteLong o area × (Readable fold o n m → ⊥))
-  pub long-text : (r .number ≡ 12) ↔ (WriteLong o area × Readable fold o n m × (textBytes < length (textOf o n m)))
+  pub long-text : (r .number ≡ 12) ↔ (WriteLong o area × Readable fold o n m × (textBytes < length (writtenText o n m)))
   -- 0 and these are all its numbers
   pub no-other : (r .number ≡ 0) ⊎ OneOf (r .number) writeCauses
   -- on acceptance the text and its size; "zero after the text", and what lies past the stated size as it was
-  pub left : r .number ≡ 0 → r ≡ wrote (length (textOf o n m)) (filled textBytes (textOf o n m) area)
+  pub left : r .number ≡ 0 → r ≡ wrote (length (writtenText o n m)) (filled textBytes (writtenText o n m) area)
   -- on every refusal all as it was
   pub kept : OneOf (r .number) writeCauses → r ≡ unwritten (r .number) area
 

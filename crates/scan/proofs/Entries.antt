@@ -10,7 +10,7 @@ use borrow.Author.Tests.{eqb-true, ltb-true, ltb-false}
 use Rattle.sets.specs.Set.{pick, every}
 use Rattle.sets.proofs.Logic.{either, pick-true, pick-false, clash, and-left, and-right, or-elim, of-not}
 use Rattle.sets.proofs.Tests.{every-at}
-use Rattle.grammar.specs.Bytes.{blank, reserved, small, folded, letters}
+use Rattle.grammar.specs.Bytes.{blank, reserved, small, ourLetters, letters}
 use Rattle.grammar.proofs.Folding.{past-bytes}
 
 -- the entries of the code's table
@@ -40,16 +40,16 @@ entry b = getD entries b 0
 -- the rule at one byte: the entry is the folded byte; it is 0 or its own entry; and 0 for reserved bytes
 unfoldable ruled : ℕ → Bool
 ruled b =
-    eqb (entry b) (folded b) && ((eqb (entry b) 0 || eqb (entry (entry b)) (entry b)) && (not (reserved b) || eqb (entry b) 0))
+    eqb (entry b) (ourLetters b) && ((eqb (entry b) 0 || eqb (entry (entry b)) (entry b)) && (not (reserved b) || eqb (entry b) 0))
 
 -- the rule holds at every byte
 all-ruled : every 256 ruled ≡ true
-unfolding every ruled entries reserved blank folded small pick
+unfolding every ruled entries reserved blank ourLetters small pick
 all-ruled = refl
 
 -- what document 01 demands of an entry: zero, folded, idempotent
 pub record Entry (b : ℕ) : Type 0 where
-  pub folds : entry b ≡ folded b
+  pub folds : entry b ≡ ourLetters b
   pub again : (entry b ≡ 0 → ⊥) → entry (entry b) ≡ entry b
   pub none : reserved b ≡ true → entry b ≡ 0
 
@@ -58,7 +58,7 @@ pub demanded : (b : ℕ) → b < 256 → Entry b
 unfolding ruled
 demanded b l =
     let all = every-at 256 ruled all-ruled b l in
-    let more = and-right (eqb (entry b) (folded b)) _ all in
+    let more = and-right (eqb (entry b) (ourLetters b)) _ all in
     record {
       folds = eqb-true _ _ (and-left _ _ all);
       again = λ some. or-elim _ _ (and-left _ _ more) (λ e. absurd (some (eqb-true _ _ e))) (λ e. eqb-true _ _ e);
@@ -67,7 +67,7 @@ demanded b l =
     }
 
 -- the table's letters are document 01's: at each byte by that rule, and past the bytes both are 0
-pub ours : letters entries ≡ folded
+pub ours : letters entries ≡ ourLetters
 unfolding letters
 ours =
     fun-ext

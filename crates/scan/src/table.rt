@@ -1,6 +1,6 @@
 // The folding table of document 01: one entry for each byte value, 0 for a byte that no name has, else the small letter.
 ghost use mathlib.Core.Path.{_≡_};
-ghost use Rattle.grammar.specs.Bytes.{folded, letters};
+ghost use Rattle.grammar.specs.Bytes.{ourLetters, letters};
 ghost use Rattle.scan.specs.Fold.{FoldTable};
 
 const FOLD: [u8; 256] = [
@@ -265,7 +265,7 @@ const FOLD: [u8; 256] = [
 // The table, for a call to lend on: so it is laid down once a call and not once a byte.
 pub fn folding() -> [u8; 256]
     ensures table { λ r. ⌜ FoldTable r ⌝ }
-    ensures ours { λ r. ⌜ letters r ≡ folded ⌝ }
+    ensures ours { λ r. ⌜ letters r ≡ ourLetters ⌝ }
 {
     FOLD
 }

@@ -7,9 +7,9 @@ use Prim.Native.Nat.{ℕ, suc, _+_, _*_, _≤_, _<_}
 use native.Mathlib.Omega.{arith}
 use lib.Dec.{eqb, ltb}
 use lib.ListN.{length}
-use borrow.Author.Tests.{eq-eqb, ne-eqb, lt-ltb, le-ltb, ltb-true, ltb-false}
+use borrow.Author.Tests.{eq-eqb, ne-eqb, ltb-true, ltb-false}
 use Rattle.limits.specs.Book.{textBytes, names, nameBytes, atoms, folds, rowWords, nameArea, listingBytes}
-use Rattle.sets.specs.Set.{Same}
+use Rattle.sets.specs.Set.{Same, pick}
 use Rattle.sets.proofs.Logic.{either, pick-true, pick-false}
 use Rattle.sets.proofs.Running.{rounds-few}
 use Rattle.program.specs.Program.{Program}
@@ -17,7 +17,7 @@ use Rattle.program.specs.System.{System, round, folded as after, roundsOf, held
 use Rattle.program.specs.Standard.{standard}
 use Rattle.program.proofs.Homes.{names-below}
 use Rattle.program.proofs.Theorems.{least-model}
-use Rattle.grammar.specs.Bytes.{Bytes, folded}
+use Rattle.grammar.specs.Bytes.{Bytes, ourLetters}
 use Rattle.grammar.specs.Grammar.{Clause}
 use Rattle.grammar.proofs.Folding.{folding}
 use Rattle.tables.specs.Numbering.{namesOf, programOf}
@@ -40,12 +40,13 @@ use Rattle.solving.proofs.Judging.{areas-long, long-areas, long-tables, solve-s
 use Rattle.solving.proofs.Judging.{solve-refused, solve-over-atoms, solve-solved}
 use Rattle.solving.proofs.Staged.{tables-program, book-formed, book-long}
 use Rattle.listing.specs.Write.{Listing, listingOf}
-use Rattle.solver.specs.Range.{tooShort, rangeCause}
-use Rattle.solver.specs.Run.{RunAreas, RunOutcome, Ready, runRefusal, rowsLeft, runMade, runOf}
+use Rattle.solver.specs.Range.{shortSolve, rangeCause}
+use Rattle.solver.specs.Run.{RunAreas, RunOutcome, RunReady, runRefusal, rowsLeft, runMade, runTables}
 use Rattle.solver.specs.End.{listedEnd}
 use Rattle.solver.specs.declared.Answer.{Answer}
 use Rattle.solver.specs.declared.Solved.{Solved}
 use Rattle.solver.proofs.Range.{cause-short, cause-text, cause-folds, cause-none}
+use Rattle.solver.proofs.Atoms.{over, within}
 use Rattle.solver.proofs.Listed.{listing-same}
 
 -- the areas by tables, rows and listing
@@ -121,40 +122,40 @@ pub record Ranged (t : Bytes) (k : ℕ) (o : SolveAreas) : Type 0 where
 
 -- `low` is whether an area is too short, `number` the cause before the text is read
 module _ (t : Bytes) (k : ℕ) (old : SolveAreas) {low : Bool}
-    (e : low ≡ tooShort (length (old .tables .spellings)) (length (old .tables .heads)) (length (old .tables .bodies))
+    (e : low ≡ shortSolve (length (old .tables .spellings)) (length (old .tables .heads)) (length (old .tables .bodies))
     (length (old .all)) (length (old .any)) (length (old .spare)) (length (old .model)) (length (old .listing)))
     {number : ℕ} (f : number ≡ rangeCause low (length t) k) where
   -- the test is the solver's
   low-is : low ≡ shortAreas old
-  unfolding shortAreas short tooShort
+  unfolding shortAreas short shortSolve
   low-is = e
 
   -- the call is refused for the cause, or there is none and all is in range
   by-cause : {X : Type 0}
-      → ((j : ℕ) → number ≡ suc j → solveCall folded t k old ≡ solveRefusal (suc j) 0 (old .tables) old → X)
+      → ((j : ℕ) → number ≡ suc j → solveCall ourLetters t k old ≡ solveRefusal (suc j) 0 (old .tables) old → X)
       → (number ≡ 0 → Ranged t k old → X)
       → X
   by-cause refuse pass =
       either low
-      (λ x. refuse 0 (f ∙ sym (cause-short low (length t) k x)) (solve-short folded t k old (sym low-is ∙ x)))
+      (λ x. refuse 0 (f ∙ sym (cause-short low (length t) k x)) (solve-short ourLetters t k old (sym low-is ∙ x)))
       (λ x.
       let long : shortAreas old ≡ false = sym low-is ∙ x in
       either (ltb textBytes (length t))
       (λ y.
       let l : textBytes < length t = ltb-true textBytes (length t) y in
-      refuse 1 (f ∙ sym (cause-text low (length t) k x l)) (solve-long-text folded t k old long l))
+      refuse 1 (f ∙ sym (cause-text low (length t) k x l)) (solve-long-text ourLetters t k old long l))
       (λ y.
       let fits : length t ≤ textBytes = ltb-false textBytes (length t) y in
       either (ltb folds k)
       (λ z.
       let l : folds < k = ltb-true folds k z in
-      refuse 8 (f ∙ sym (cause-folds low (length t) k x fits l)) (solve-over-folds folded t k old long fits l))
+      refuse 8 (f ∙ sym (cause-folds low (length t) k x fits l)) (solve-over-folds ourLetters t k old long fits l))
       (λ z.
       let l : k ≤ folds = ltb-false folds k z in
       pass (f ∙ sym (cause-none low (length t) k x fits l)) (record { long = areas-long old long; text = fits; few = l }))))
 
   -- refused before the text is read
-  pub call-early : {r : Solved} → r ≡ refusedAs number 0 → (number ≡ 0 → ⊥) → gives (r .answer) old ≡ solveCall folded t k old
+  pub call-early : {r : Solved} → r ≡ refusedAs number 0 → (number ≡ 0 → ⊥) → gives (r .answer) old ≡ solveCall ourLetters t k old
   call-early d some =
       by-cause
       (λ j q s. ap (λ (x : Solved). gives (x .answer) old) d ∙ ap (λ (i : ℕ). solveRefusal i 0 (old .tables) old) q ∙ sym s)
@@ -165,30 +166,30 @@ module _ (t : Bytes) (k : ℕ) (old : SolveAreas) {low : Bool}
   ranged z = by-cause (λ j p s. absurd (omega (arith, p, z))) (λ p range. range)
 
 -- what a text comes to by the letters of a table that are ours is what it comes to by ours
-pub by-ours : (fold : ℕ → ℕ) (t : Bytes) (o : Areas) {r : Outcome} → fold ≡ folded → r ≡ outcome (bookOf fold t) o → r ≡ outcome (bookOf folded t) o
+pub by-ours : (fold : ℕ → ℕ) (t : Bytes) (o : Areas) {r : Outcome} → fold ≡ ourLetters → r ≡ outcome (bookOf fold t) o → r ≡ outcome (bookOf ourLetters t) o
 by-ours fold t o e g = g ∙ ap (λ (f : ℕ → ℕ). outcome (bookOf f t) o) e
 
 -- a text that is refused has a number
-some-cause : (t : Bytes) (i j : ℕ) → bookOf folded t ≡ refused i j → i ≡ 0 → ⊥
-some-cause t i j b = refusal-some folded t i j (judged folded folding .refuses t i j .0 b)
+some-cause : (t : Bytes) (i j : ℕ) → bookOf ourLetters t ≡ refused i j → i ≡ 0 → ⊥
+some-cause t i j b = refusal-some ourLetters t i j (judged ourLetters folding .refuses t i j .0 b)
 
 -- the text is a book, whose names and rules are counted and left
 record BookRead (t : Bytes) (old : Areas) (r : Outcome) : Type 0 where
   cs : List Clause
-  reads : bookOf folded t ≡ read cs
+  reads : bookOf ourLetters t ≡ read cs
   left : r ≡ outcome (read cs) old
 
 -- the text is read, as r says
-module _ {t : Bytes} {k : ℕ} {old : SolveAreas} (range : Ranged t k old) {r : Outcome} (g : r ≡ outcome (bookOf folded t) (old .tables)) where
+module _ {t : Bytes} {k : ℕ} {old : SolveAreas} (range : Ranged t k old) {r : Outcome} (g : r ≡ outcome (bookOf ourLetters t) (old .tables)) where
   -- what the solver answers and leaves, x being what the text comes to
-  solver-is : (x : Reading) → bookOf folded t ≡ x → solveCall folded t k old ≡ solveRead x k old
+  solver-is : (x : Reading) → bookOf ourLetters t ≡ x → solveCall ourLetters t k old ≡ solveRead x k old
   solver-is x b =
-      solve-in-range folded t k old (long-areas old (range .long)) (range .text) (range .few)
+      solve-in-range ourLetters t k old (long-areas old (range .long)) (range .text) (range .few)
       ∙ ap (λ (y : Reading). solveRead y k old) b
 
   -- refused by the reader
-  refused-by : (x : Reading) → bookOf folded t ≡ x → r ≡ outcome x (old .tables) → (r .answer .number ≡ 0 → ⊥)
-      → solveRefusal (r .answer .number) (r .answer .line) (r .areas) old ≡ solveCall folded t k old
+  refused-by : (x : Reading) → bookOf ourLetters t ≡ x → r ≡ outcome x (old .tables) → (r .answer .number ≡ 0 → ⊥)
+      → solveRefusal (r .answer .number) (r .answer .line) (r .areas) old ≡ solveCall ourLetters t k old
   unfolding outcome refusal
   refused-by (read cs) b d some = absurd (some (ap (λ (o : Outcome). o .answer .number) d))
   refused-by (refused i j) b d some =
@@ -196,12 +197,12 @@ module _ {t : Bytes} {k : ℕ} {old : SolveAreas} (range : Ranged t k old) {r : 
       ∙ sym (solver-is (refused i j) b ∙ solve-refused i j k old)
 
   pub call-refused : {s : Solved} → s ≡ refusedAs (r .answer .number) (r .answer .line) → (r .answer .number ≡ 0 → ⊥)
-      → gives (s .answer) (areasOf (r .areas) (runIn old) (old .listing)) ≡ solveCall folded t k old
+      → gives (s .answer) (areasOf (r .areas) (runIn old) (old .listing)) ≡ solveCall ourLetters t k old
   call-refused d some =
-      ap (λ (x : Solved). gives (x .answer) (areasOf (r .areas) (runIn old) (old .listing))) d ∙ refused-by (bookOf folded t) refl g some
+      ap (λ (x : Solved). gives (x .answer) (areasOf (r .areas) (runIn old) (old .listing))) d ∙ refused-by (bookOf ourLetters t) refl g some
 
   -- else read
-  read-by : (x : Reading) → bookOf folded t ≡ x → r ≡ outcome x (old .tables) → r .answer .number ≡ 0 → BookRead t (old .tables) r
+  read-by : (x : Reading) → bookOf ourLetters t ≡ x → r ≡ outcome x (old .tables) → r .answer .number ≡ 0 → BookRead t (old .tables) r
   unfolding outcome refusal
   read-by (read cs) b d none = record { cs = cs; reads = b; left = d }
   read-by (refused i j) b d none = absurd (some-cause t i j b (sym (ap (λ (o : Outcome). o .answer .number) d) ∙ none))
@@ -209,7 +210,7 @@ module _ {t : Bytes} {k : ℕ} {old : SolveAreas} (range : Ranged t k old) {r : 
   module _ (none : r .answer .number ≡ 0) where
     -- the book, its names and its program, which fit
     book : BookRead t (old .tables) r
-    book = read-by (bookOf folded t) refl g none
+    book = read-by (bookOf ourLetters t) refl g none
 
     abbrev ns : List Bytes
     ns = namesOf (book .cs)
@@ -218,7 +219,7 @@ module _ {t : Bytes} {k : ℕ} {old : SolveAreas} (range : Ranged t k old) {r : 
     p = programOf (book .cs)
 
     fits : Fits (book .cs)
-    fits = let l = read-fits folded folding t (book .cs) (book .reads) in record { rules-fit = l .0; names-fit = l .1 }
+    fits = let l = read-fits ourLetters folding t (book .cs) (book .reads) in record { rules-fit = l .0; names-fit = l .1 }
 
     -- what is left, part by part
     names-are : r .answer .names ≡ length ns
@@ -244,7 +245,7 @@ module _ {t : Bytes} {k : ℕ} {old : SolveAreas} (range : Ranged t k old) {r : 
     counts-are = ap (λ (o : Outcome). record { names = o .answer .names; rules = o .answer .rules }) (book .left)
 
     -- the tables are long enough and in order
-    pub tables-ready : Ready rules-left counts k (runIn old)
+    pub tables-ready : RunReady rules-left counts k (runIn old)
     tables-ready =
         let l = range .long in
         record {
@@ -259,48 +260,37 @@ module _ {t : Bytes} {k : ℕ} {old : SolveAreas} (range : Ranged t k old) {r : 
     program-is = ap₂ programIn rules-are counts-are ∙ tables-program (book .cs) (old .tables) fits
 
     -- the rounds are made, as s says
-    module _ {s : RunOutcome} (g₂ : s ≡ runOf (programIn rules-left counts) k (runIn old)) where
+    module _ {s : RunOutcome} (g₂ : s ≡ runTables (programIn rules-left counts) k (runIn old)) where
       -- the rows after the folds
       abbrev made : System
       made = after k (standard p)
 
-      -- over 256 atoms, or not
-      over : atoms < standard p .atoms → s ≡ runRefusal 8 (runIn old)
-      unfolding runOf
-      over l =
-          g₂ ∙ ap (λ (x : Program). runOf x k (runIn old)) program-is
-          ∙ pick-true (runRefusal 8 (runIn old)) (runMade made (runIn old)) (lt-ltb atoms (standard p .atoms) l)
+      -- what is made of the book's program, by its atoms
+      run-is : s ≡ pick (ltb atoms (standard p .atoms)) (runRefusal 8 (runIn old)) (runMade made (runIn old))
+      unfolding runTables
+      run-is = g₂ ∙ ap (λ (x : Program). runTables x k (runIn old)) program-is
 
-      good : standard p .atoms ≤ atoms → s ≡ runMade made (runIn old)
-      unfolding runOf
-      good l =
-          g₂ ∙ ap (λ (x : Program). runOf x k (runIn old)) program-is
-          ∙ pick-false (runRefusal 8 (runIn old)) (runMade made (runIn old)) (le-ltb atoms (standard p .atoms) l)
-
-      -- refused for its atoms
+      -- refused for them
       pub call-over : {a : Solved} → a ≡ refusedAs (s .number) 0 → (s .number ≡ 0 → ⊥)
-          → gives (a .answer) (areasOf (r .areas) (s .areas) (old .listing)) ≡ solveCall folded t k old
+          → gives (a .answer) (areasOf (r .areas) (s .areas) (old .listing)) ≡ solveCall ourLetters t k old
       unfolding runMade
       call-over d some =
-          either (ltb atoms (standard p .atoms))
-          (λ x.
-          let l : atoms < standard p .atoms = ltb-true atoms (standard p .atoms) x in
+          let o = over (λ (x : RunOutcome). x .number) _ _ _ refl refl run-is some in
           ap (λ (y : Solved). gives (y .answer) (areasOf (r .areas) (s .areas) (old .listing))) d
-          ∙ ap₂ (λ (o : Areas) (y : RunOutcome). gives (refusedAs (y .number) 0 .answer) (areasOf o (y .areas) (old .listing))) tables-are (over l)
-          ∙ sym (solver-is (read (book .cs)) (book .reads) ∙ solve-over-atoms (book .cs) k old l))
-          (λ x. absurd (some (ap (λ (y : RunOutcome). y .number) (good (ltb-false atoms (standard p .atoms) x)))))
+          ∙ ap₂ (λ (x : Areas) (y : RunOutcome). gives (refusedAs (y .number) 0 .answer) (areasOf x (y .areas) (old .listing))) tables-are (o .1)
+          ∙ sym (solver-is (read (book .cs)) (book .reads) ∙ solve-over-atoms (book .cs) k old (o .0))
 
       module _ (none₂ : s .number ≡ 0) where
-        -- at most 256 atoms
-        few : standard p .atoms ≤ atoms
-        few =
-            either (ltb atoms (standard p .atoms))
-            (λ x. absurd (omega (arith, none₂, ap (λ (y : RunOutcome). y .number) (over (ltb-true atoms (standard p .atoms) x)))))
-            (ltb-false atoms (standard p .atoms))
+        -- at most 256 atoms, and the rounds and the last set are the program's
+        taken : (standard p .atoms ≤ atoms) × (s ≡ runMade made (runIn old))
+        unfolding runMade
+        taken = within (λ (x : RunOutcome). x .number) _ _ _ refl refl run-is none₂
 
-        -- the rounds and the last set are the program's
+        few : standard p .atoms ≤ atoms
+        few = taken .0
+
         made-is : s ≡ runMade made (runIn old)
-        made-is = good few
+        made-is = taken .1
 
         rounds-are : s .rounds ≡ roundsOf made
         unfolding runMade
@@ -323,7 +313,7 @@ module _ {t : Bytes} {k : ℕ} {old : SolveAreas} (range : Ranged t k old) {r : 
         listing-ready =
             let few-names : length ns ≤ names = fits .names-fit in
             let used : length (nameRows ns) ≡ length ns * nameBytes =
-            length-nameRows ns (λ a l. read-fine folded folding t (book .cs) (book .reads) a l .0) in
+            length-nameRows ns (λ a l. read-fine ourLetters folding t (book .cs) (book .reads) a l .0) in
             let area : length (r .areas .spellings) ≡ length (filled nameArea (nameRows ns) (old .tables .spellings)) =
             ap (λ (o : Areas). length (o .spellings)) tables-are in (
               omega (arith, few-names, names-are),
@@ -357,7 +347,7 @@ module _ {t : Bytes} {k : ℕ} {old : SolveAreas} (range : Ranged t k old) {r : 
         unfolding tablesOf filledWith
         names-left =
             ap₂ (λ (o : Areas) (i : ℕ). namesIn (o .spellings) i) tables-are names-are
-            ∙ names-filled ns (old .tables .spellings) (read-fine folded folding t (book .cs) (book .reads))
+            ∙ names-filled ns (old .tables .spellings) (read-fine ourLetters folding t (book .cs) (book .reads))
 
         -- the listing is written, as l says: the book's
         module _ {l : Listing}
@@ -368,7 +358,7 @@ module _ {t : Bytes} {k : ℕ} {old : SolveAreas} (range : Ranged t k old) {r : 
               ∙ listing-same ns (modelIn (s .areas .model)) (heldBy made) k (roundsOf made) (old .listing) same-held
 
           -- solved
-          pub call-done : solvedAs r s l ≡ solveCall folded t k old
+          pub call-done : solvedAs r s l ≡ solveCall ourLetters t k old
           unfolding outcome runMade rowsLeft listingOf answerOf solvedAreas programOf
           call-done =
               ap₂ (λ (x : Outcome) (y : RunOutcome). solvedAs x y l) (book .left) made-is
@@ -376,7 +366,7 @@ module _ {t : Bytes} {k : ℕ} {old : SolveAreas} (range : Ranged t k old) {r : 
               ∙ sym (solver-is (read (book .cs)) (book .reads) ∙ solve-solved (book .cs) k old few)
 
           -- and the end is that of the listing's text
-          pub end-done : l .end ≡ listedEnd 0 (bookOf folded t) k
+          pub end-done : l .end ≡ listedEnd 0 (bookOf ourLetters t) k
           unfolding listingOf listedEnd
           end-done =
               ap (λ (x : Listing). x .end) listing-is ∙ sym (pick-true _ 0 (eq-eqb 0 0 refl))

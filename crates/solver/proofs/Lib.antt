@@ -1,4 +1,5 @@
 pub mod Range
+pub mod Atoms
 pub mod Running
 pub mod Listed
 pub mod Calls

@@ -1,15 +1,16 @@
 -- From rule tables to rows, the last set and the counts: what each stage asks for, and what the stages leave together.
 -- Assumes nothing.
-use mathlib.Core.Path.{_≡_, sym, ap, ap₂, _∙_}
+use mathlib.Core.Path.{_≡_, refl, sym, ap, ap₂, _∙_}
 use mathlib.Core.Bool.{true}
 use mathlib.Core.List.{List, []}
-use Prim.Native.Nat.{ℕ, _≤_, _<_}
+use Prim.Native.Nat.{ℕ, _≤_}
 use native.Mathlib.Omega.{arith}
 use lib.Dec.{ltb}
 use lib.ListN.{length}
-use borrow.Author.Tests.{lt-ltb, le-ltb, ltb-true, ltb-false}
+use borrow.Author.Tests.{lt-ltb, le-ltb}
 use Rattle.limits.specs.Book.{atoms, folds, rowWords, rowArea}
-use Rattle.sets.proofs.Logic.{either, not-true, pick-true, pick-false}
+use Rattle.sets.specs.Set.{pick}
+use Rattle.sets.proofs.Logic.{not-true, pick-true, pick-false}
 use Rattle.program.specs.Program.{Program, WellFormed}
 use Rattle.program.specs.System.{System, folded, roundsOf, heldBy}
 use Rattle.program.specs.System as System
@@ -26,7 +27,8 @@ use Rattle.systems.proofs.Bridge.{formed-program}
 use Rattle.systems.proofs.Standard.{standardWell, long-tables, standard-formed}
 use Rattle.solving.proofs.Staged.{standard-fold, folded-run}
 use Rattle.rounds.proofs.Calls.{accepted}
-use Rattle.solver.specs.Run.{RunAreas, RunOutcome, Ready, rowsIn, runRefusal, rowsLeft, runMade, runOf}
+use Rattle.solver.specs.Run.{RunAreas, RunOutcome, RunReady, rowsIn, runRefusal, rowsLeft, runMade, runTables}
+use Rattle.solver.proofs.Atoms.{over, within}
 
 -- what the stages give, in one
 abbrev overBy : StandardOutcome → List ℕ → RunOutcome
@@ -55,7 +57,7 @@ madeBy s f r =
 abbrev foldedIn : StandardOutcome → List ℕ → RowAreas
 foldedIn s all = record { all = all; any = s .areas .any; model = s .areas .model }
 
-module _ {tables : RuleTables} {counts : Counts} {k : ℕ} {old : RunAreas} (ready : Ready tables counts k old) where
+module _ {tables : RuleTables} {counts : Counts} {k : ℕ} {old : RunAreas} (ready : RunReady tables counts k old) where
   -- the program of the tables, and its rows after the folds
   abbrev p : Program
   p = programIn tables counts
@@ -68,39 +70,29 @@ module _ {tables : RuleTables} {counts : Counts} {k : ℕ} {old : RunAreas} (rea
 
   -- the tables are standardised, as s says
   module _ {s : StandardOutcome} (g : s ≡ standardCall tables counts (rowsIn old)) where
-    standardised : s ≡ standardOf p (rowsIn old)
-    standardised = g ∙ standard-formed tables counts (rowsIn old) (long-tables tables (rowsIn old) (ready .long)) (ready .formed)
-
-    -- over 256 atoms, or not
-    over : atoms < standard p .atoms → s ≡ standardRefusal 8 (rowsIn old)
+    standardised : s ≡ pick (ltb atoms (standard p .atoms)) (standardRefusal 8 (rowsIn old)) (standardWell p (rowsIn old))
     unfolding standardOf
-    over l = standardised ∙ pick-true (standardRefusal 8 (rowsIn old)) (standardWell p (rowsIn old)) (lt-ltb atoms (standard p .atoms) l)
-
-    good : standard p .atoms ≤ atoms → s ≡ standardWell p (rowsIn old)
-    unfolding standardOf
-    good l = standardised ∙ pick-false (standardRefusal 8 (rowsIn old)) (standardWell p (rowsIn old)) (le-ltb atoms (standard p .atoms) l)
+    standardised =
+        g ∙ standard-formed tables counts (rowsIn old) (long-tables tables (rowsIn old) (ready .long)) (ready .formed)
 
     -- refused for its atoms
-    pub run-over : (s .number ≡ 0 → ⊥) → overBy s (old .spare) ≡ runOf p k old
-    unfolding runOf
+    pub run-over : (s .number ≡ 0 → ⊥) → overBy s (old .spare) ≡ runTables p k old
+    unfolding runTables
     run-over some =
-        either (ltb atoms (standard p .atoms))
-        (λ x.
-        ap (λ (o : StandardOutcome). overBy o (old .spare)) (over (ltb-true atoms (standard p .atoms) x))
-        ∙ sym (pick-true (runRefusal 8 old) (runMade made old) x))
-        (λ x. absurd (some (ap (λ (o : StandardOutcome). o .number) (good (ltb-false atoms (standard p .atoms) x)))))
+        let o = over (λ (x : StandardOutcome). x .number) _ _ _ refl refl standardised some in
+        ap (λ (x : StandardOutcome). overBy x (old .spare)) (o .1)
+        ∙ sym (pick-true (runRefusal 8 old) (runMade made old) (lt-ltb atoms (standard p .atoms) (o .0)))
 
     module _ (none : s .number ≡ 0) where
-      -- at most 256 atoms
-      few : standard p .atoms ≤ atoms
-      few =
-          either (ltb atoms (standard p .atoms))
-          (λ x. absurd (omega (arith, none, ap (λ (o : StandardOutcome). o .number) (over (ltb-true atoms (standard p .atoms) x)))))
-          (ltb-false atoms (standard p .atoms))
+      -- at most 256 atoms, and the rows are the program's
+      taken : (standard p .atoms ≤ atoms) × (s ≡ standardWell p (rowsIn old))
+      taken = within (λ (x : StandardOutcome). x .number) _ _ _ refl refl standardised none
 
-      -- the rows are the program's
+      few : standard p .atoms ≤ atoms
+      few = taken .0
+
       rows-are : s ≡ standardWell p (rowsIn old)
-      rows-are = good few
+      rows-are = taken .1
 
       -- folding them is not refused
       abbrev folding : FoldOutcome
@@ -157,8 +149,8 @@ module _ {tables : RuleTables} {counts : Counts} {k : ℕ} {old : RunAreas} (rea
 
         -- the rounds are made
         pub run-done : {r : RoundsOutcome} → r ≡ roundsCall rows (s .atoms)
-            → madeBy s (record { number = 0; all = all; spare = spare }) r ≡ runOf p k old
-        unfolding runOf runMade rowsLeft standardRows System.c System.h System.anyHead
+            → madeBy s (record { number = 0; all = all; spare = spare }) r ≡ runTables p k old
+        unfolding runTables runMade rowsLeft standardRows System.c System.h System.anyHead
         run-done {r} e =
             ap₂ (λ (o : StandardOutcome) (x : FoldOutcome). madeBy o x r) rows-are fold-is
             ∙ ap (madeBy (standardWell p (rowsIn old)) folding) (e ∙ run-call)

@@ -8,8 +8,8 @@ use Rattle.limits.specs.Book.{textBytes, rules, folds, rowWords, nameArea, body
 use Rattle.sets.specs.Set.{pick}
 
 -- an area is shorter than its stated size, by the lengths of all eight
-unfoldable pub tooShort : ℕ → ℕ → ℕ → ℕ → ℕ → ℕ → ℕ → ℕ → Bool
-tooShort spellings heads bodies all any spare model listing =
+unfoldable pub shortSolve : ℕ → ℕ → ℕ → ℕ → ℕ → ℕ → ℕ → ℕ → Bool
+shortSolve spellings heads bodies all any spare model listing =
     (ltb spellings nameArea || (ltb heads rules || ltb bodies bodyArea))
     || (ltb all rowArea || (ltb any rowArea || (ltb spare rowArea || (ltb model rowWords || ltb listing listingBytes))))
 

@@ -31,7 +31,7 @@ abbrev pub rowsIn : RunAreas → RowAreas
 rowsIn o = record { all = o .all; any = o .any; model = o .model }
 
 -- tables in order, at most 8 folds, and areas of their stated sizes or longer
-pub record Ready (tables : RuleTables) (counts : Counts) (k : ℕ) (o : RunAreas) : Type 0 where
+pub record RunReady (tables : RuleTables) (counts : Counts) (k : ℕ) (o : RunAreas) : Type 0 where
   pub long : StandardLong tables (rowsIn o)
   pub spare : rowArea ≤ length (o .spare)
   pub few : k ≤ folds
@@ -73,5 +73,5 @@ runMade s old =
     }
 
 -- a program after k folds: over 256 atoms, or the rounds over its rows
-unfoldable pub runOf : Program → ℕ → RunAreas → RunOutcome
-runOf p k old = pick (ltb atoms (standard p .atoms)) (runRefusal 8 old) (runMade (folded k (standard p)) old)
+unfoldable pub runTables : Program → ℕ → RunAreas → RunOutcome
+runTables p k old = pick (ltb atoms (standard p .atoms)) (runRefusal 8 old) (runMade (folded k (standard p)) old)

@@ -8,11 +8,11 @@ ghost use Prim.Native.Nat.{_≤_};
 ghost use lib.ListN.{length};
 ghost use Rattle.limits.specs.Book.{textBytes, rules, nameArea, bodyArea, rowArea};
 ghost use Rattle.rows.specs.Clear.{Clear};
-ghost use Rattle.grammar.specs.Bytes.{folded};
+ghost use Rattle.grammar.specs.Bytes.{ourLetters};
 ghost use Rattle.tables.specs.Reading.{bookOf};
 ghost use Rattle.tables.specs.Areas.{outcome};
 ghost use Rattle.solving.specs.Solve.{solveCall};
-ghost use Rattle.solver.specs.Range.{tooShort, rangeCause};
+ghost use Rattle.solver.specs.Range.{shortSolve, rangeCause};
 ghost use Rattle.solver.specs.End.{listedEnd};
 
 pub mod run;
@@ -46,7 +46,7 @@ fn too_short(
     model: usize,
     listing: usize,
 ) -> bool
-    ensures { λ r. ⌜ r ≡ tooShort spellings heads bodies all any spare model listing ⌝ }
+    ensures { λ r. ⌜ r ≡ shortSolve spellings heads bodies all any spare model listing ⌝ }
 {
     if spellings < Book::NAME_AREA {
         return true;
@@ -115,7 +115,7 @@ fn read(text: &[u8], spellings: &mut [u8], heads: &mut [u16], bodies: &mut [u64]
     ensures { λ r. ⌜ record {
       answer = record { number = r .number; line = r .line; names = r .names; rules = r .rules };
       areas = record { spellings = now (spellings .exit); heads = now (heads .exit); bodies = now (bodies .exit) };
-    } ≡ outcome (bookOf folded (now (text .entry)))
+    } ≡ outcome (bookOf ourLetters (now (text .entry)))
         (record { spellings = now (spellings .entry); heads = now (heads .entry); bodies = now (bodies .entry) }) ⌝ }
 {
     let table = folding();
@@ -157,7 +157,7 @@ pub fn solve_in(
         model = now (model .exit);
         listing = now (listing .exit);
       };
-    } ≡ solveCall folded (now (text .entry)) folds (record {
+    } ≡ solveCall ourLetters (now (text .entry)) folds (record {
       tables = record { spellings = now (spellings .entry); heads = now (heads .entry); bodies = now (bodies .entry) };
       all = now (all .entry);
       any = now (any .entry);
@@ -165,7 +165,7 @@ pub fn solve_in(
       model = now (model .entry);
       listing = now (listing .entry);
     }) ⌝ }
-    ensures end { λ r. ⌜ r .end ≡ listedEnd (r .answer .number) (bookOf folded (now (text .entry))) folds ⌝ }
+    ensures end { λ r. ⌜ r .end ≡ listedEnd (r .answer .number) (bookOf ourLetters (now (text .entry))) folds ⌝ }
 {
     let short = too_short(
         spellings.len(),
@@ -249,7 +249,7 @@ pub fn solve(
         model = now (model .exit);
         listing = now (listing .exit);
       };
-    } ≡ solveCall folded (now (text .entry)) folds (record {
+    } ≡ solveCall ourLetters (now (text .entry)) folds (record {
       tables = record { spellings = now (spellings .entry); heads = now (heads .entry); bodies = now (bodies .entry) };
       all = now (all .entry);
       any = now (any .entry);

@@ -4,7 +4,7 @@ ghost use mathlib.Core.Bool.{true};
 ghost use Rattle.limits.specs.Book.{rowArea};
 ghost use Rattle.rows.specs.Clear.{Clear};
 ghost use Rattle.tables.specs.Areas.{programIn};
-ghost use Rattle.solver.specs.Run.{Ready, runOf};
+ghost use Rattle.solver.specs.Run.{RunReady, runTables};
 
 // The number of a refusal, 0 for none; then the atoms, the rounds, c and h.
 pub struct Run {
@@ -30,7 +30,7 @@ pub fn run_tables(
     model: &mut [u64],
     fresh: bool,
 ) -> Run
-    requires { ⌜ Ready (record { heads = now heads; bodies = now bodies }) (record { names = n; rules = m }) folds
+    requires { ⌜ RunReady (record { heads = now heads; bodies = now bodies }) (record { names = n; rules = m }) folds
         (record { all = now all; any = now any; spare = now spare; model = now model }) ⌝ }
     requires { ⌜ (fresh ≡ true → Clear rowArea (now all) × Clear rowArea (now any) × Clear rowArea (now spare)) ⌝ }
     ensures { λ r. ⌜ record {
@@ -40,7 +40,7 @@ pub fn run_tables(
       c = r .c;
       h = r .h;
       areas = record { all = now (all .exit); any = now (any .exit); spare = now (spare .exit); model = now (model .exit) };
-    } ≡ runOf (programIn (record { heads = now (heads .entry); bodies = now (bodies .entry) }) (record { names = n; rules = m })) folds
+    } ≡ runTables (programIn (record { heads = now (heads .entry); bodies = now (bodies .entry) }) (record { names = n; rules = m })) folds
         (record { all = now (all .entry); any = now (any .entry); spare = now (spare .entry); model = now (model .entry) }) ⌝ }
 {
     let made = standard::standardise_formed(heads, bodies, n, m, all, any, model, fresh);

@@ -12,7 +12,7 @@ use lib.ListN.{length, getD}
 use borrow.Author.Tests.{ltb-true, lt-ltb, eqb-true}
 use Rattle.sets.specs.Set.{Set, Within}
 use Rattle.sets.proofs.Logic.{clash, and-left, and-right, and-make, or-elim}
-use Rattle.program.specs.Program.{Rule, blank, Model, InEveryModel}
+use Rattle.program.specs.Program.{Rule, noRule, Model, InEveryModel}
 use Rattle.grammar.specs.Bytes.{Bytes, Folding, Among}
 use Rattle.grammar.specs.Grammar.{Clause, silent, rule, Says}
 use Rattle.grammar.specs.Lines.{formOf}
@@ -84,7 +84,7 @@ of-clause (d ∷ ds) c x (inr o) m = among-right x (d .head ∷ d .body) (standi
 
 -- each clause has a rule by number
 rule-of : (ns : List Bytes) (cs : List Clause) (c : Clause) → OneOf c cs
-    → (j : ℕ) × (j < length (map (numbered ns) cs)) × (getD (map (numbered ns) cs) j blank ≡ numbered ns c)
+    → (j : ℕ) × (j < length (map (numbered ns) cs)) × (getD (map (numbered ns) cs) j noRule ≡ numbered ns c)
 unfolding OneOf
 rule-of ns [] c o = absurd o
 rule-of ns (d ∷ ds) c (inl e) = (zero, omega arith, ap (numbered ns) e)
@@ -92,7 +92,7 @@ rule-of ns (d ∷ ds) c (inr o) = let r = rule-of ns ds c o in (suc (r .0), omeg
 
 -- and each rule by number is that of a clause
 clause-of : (ns : List Bytes) (cs : List Clause) (j : ℕ) → j < length (map (numbered ns) cs)
-    → (c : Clause) × OneOf c cs × (getD (map (numbered ns) cs) j blank ≡ numbered ns c)
+    → (c : Clause) × OneOf c cs × (getD (map (numbered ns) cs) j noRule ≡ numbered ns c)
 unfolding OneOf
 clause-of ns [] j l = absurd (omega arith)
 clause-of ns (d ∷ ds) zero l = (d, inl refl, refl)
@@ -158,7 +158,7 @@ module _ (fold : ℕ → ℕ) (folding : Folding fold) (t : Bytes) (cs : List Cl
         let o : OneOf c cs = rule-in c r in
         let q = rule-of ns cs c o in
         let l : place ns (c .head) < length ns = numbers cs .below (c .head) (of-clause cs c (c .head) o (inl refl)) in
-        let b : Within (length ns) (getD (map (numbered ns) cs) (q .0) blank .body) f =
+        let b : Within (length ns) (getD (map (numbered ns) cs) (q .0) noRule .body) f =
         λ i m e.
         let y = place-of ns (c .body) i (sym (ap (λ (k : Rule ℕ). k .body i) (q .2)) ∙ e) in
         subst (λ (a : ℕ). f a ≡ true) (y .2) (spelt-find ns f (y .0) (h (y .0) (y .1)) .1)

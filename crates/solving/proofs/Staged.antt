@@ -16,7 +16,7 @@ use Rattle.sets.proofs.Logic.{either, clash, not-true}
 use Rattle.sets.proofs.Tests.{within-make}
 use Rattle.sets.proofs.Rounds.{rounds-agree, reached-agree}
 use Rattle.program.specs.Program.{Rule, Program, WellFormed}
-use Rattle.program.specs.System.{System, round, unfolded, folded, roundsOf, heldBy}
+use Rattle.program.specs.System.{System, round, rowsAfter, folded, roundsOf, heldBy}
 use Rattle.program.specs.Standard.{allRow, anyRow, startSet, standard}
 use Rattle.program.proofs.Theorems.{least-model}
 use Rattle.grammar.specs.Grammar.{Clause}
@@ -28,7 +28,7 @@ use Rattle.tables.proofs.Encoding.{rules-in, length-filled, filled-is, long-eno
 use Rattle.tables.proofs.Numbering.{numbers, heads-length, bodies-length, book-low}
 use Rattle.systems.specs.Rows.{RowAreas, rowIn, packed, below}
 use Rattle.systems.specs.Fold.{shortRows, foldedArea, foldCall}
-use Rattle.systems.specs.Rounds.{modelIn, withModel, systemIn, startKept, runOf, roundsCall}
+use Rattle.systems.specs.Rounds.{modelIn, withModel, systemIn, startKept, roundsMade, roundsCall}
 use Rattle.systems.specs.Standardise.{standardCall, standardOf, standardRows}
 use Rattle.systems.specs.Claims.{InCount, TablesLong, StandardLong, StandardFormed}
 use Rattle.systems.proofs.Packed.{length-packed, packed-same, zero-word, row-unused, row-filled-past}
@@ -144,7 +144,7 @@ module _ (p : Program) (well : WellFormed p) (few : standard p .atoms ≤ atoms)
   m = standard p .atoms
 
   abbrev rows : ℕ → ℕ → Set
-  rows k = unfolded k m (allRow p)
+  rows k = rowsAfter k m (allRow p)
 
   -- these lie within the atoms
   pub folded-within : (k i a : ℕ) → i < m → rows k i a ≡ true → a < m
@@ -176,22 +176,22 @@ module _ (p : Program) (well : WellFormed p) (few : standard p .atoms ≤ atoms)
     all-kept = area-long (allRow p) (o .all) all-long
 
     -- folded, they are the definition's in every bit
-    same-rows : (i : ℕ) → i < m → Same (rowWords * wordBits) (unfolded k m (rowIn rowWords all) i) (rows k i)
+    same-rows : (i : ℕ) → i < m → Same (rowWords * wordBits) (rowsAfter k m (rowIn rowWords all) i) (rows k i)
     same-rows i l a b =
-        let inside : unfolded k m (rowIn rowWords all) i a ≡ true → a < m =
+        let inside : rowsAfter k m (rowIn rowWords all) i a ≡ true → a < m =
         λ e. unfolded-in k atoms m (rowIn rowWords all) few all-in i a (omega arith) e .1 in
         either (ltb a m)
         (λ t. unfolded-same k m (rowIn rowWords all) (allRow p) (λ i l a b. all-rows p well few o i l a) i l a (ltb-true a m t))
         (λ t.
         let past : m ≤ a = ltb-false a m t in
-        not-true (unfolded k m (rowIn rowWords all) i a) (λ e. let c : a < m = inside e in omega arith)
+        not-true (rowsAfter k m (rowIn rowWords all) i a) (λ e. let c : a < m = inside e in omega arith)
         ∙ sym (not-true (rows k i a) (λ e. let c : a < m = folded-within k i a l e in omega arith)))
 
     -- so folding leaves the definition's rows
     folded-area : foldedArea k m all ≡ filled rowArea (packed rowWords m (rows k)) (o .all)
     unfolding foldedArea standardRows
     folded-area =
-        ap (λ (xs : List ℕ). begun xs all) (packed-same rowWords m (unfolded k m (rowIn rowWords all)) (rows k) same-rows)
+        ap (λ (xs : List ℕ). begun xs all) (packed-same rowWords m (rowsAfter k m (rowIn rowWords all)) (rows k) same-rows)
         ∙ begun-over rowArea (packed rowWords m (rows k)) (packed rowWords m (allRow p)) (o .all)
         (length-packed rowWords m (rows k) ∙ sym (length-packed rowWords m (allRow p)))
 
@@ -229,7 +229,7 @@ module _ (p : Program) (well : WellFormed p) (few : standard p .atoms ≤ atoms)
           (λ i l t. agree (modelIn model) (startSet p) starts i l ∙ least-model p well k .rounds .start i l (sym (starts i l) ∙ t))
 
       -- so they are not refused
-      runs : roundsCall after m ≡ runOf here model
+      runs : roundsCall after m ≡ roundsMade here model
       unfolding standardRows
       runs =
           call-runs after m (
@@ -259,9 +259,9 @@ module _ (p : Program) (well : WellFormed p) (few : standard p .atoms ≤ atoms)
           model-again (below m (heldBy here)) (startSet p) (o .model)
           ∙ ap (λ (f : Set). withModel f (o .model)) (below-same m (heldBy here) (heldBy defined) held-same)
 
-      rounds-left : runOf here model
+      rounds-left : roundsMade here model
           ≡ record { number = 0; rounds = roundsOf defined; model = withModel (below m (heldBy defined)) (o .model) }
-      unfolding runOf
+      unfolding roundsMade
       rounds-left = ap₂ (λ (r : ℕ) (area : List ℕ). record { number = 0; rounds = r; model = area }) rounds-same model-left
 
 -- the rows of a program are taken, and folded as the definition folds them

@@ -1,7 +1,7 @@
 -- Demands 1 and 3, each one claim of specs/Claims.antt, for any folding of names that obeys the rule; and with document 01's letters.
 -- Assumes nothing.
 use Prim.Native.Nat.{ℕ}
-use Rattle.grammar.specs.Bytes.{Folding, folded}
+use Rattle.grammar.specs.Bytes.{Folding, ourLetters}
 use Rattle.grammar.proofs.Folding.{folding as ours}
 use Rattle.solving.specs.Claims.{Demands}
 use Rattle.solving.proofs.Judging as Judging
@@ -29,5 +29,5 @@ demands fold folding = record {
 }
 
 -- as the calls' contracts have them
-pub books-solved : Demands folded
-books-solved = demands folded ours
+pub books-solved : Demands ourLetters
+books-solved = demands ourLetters ours

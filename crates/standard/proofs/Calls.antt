@@ -31,8 +31,8 @@ use Rattle.systems.proofs.Running.{length-model, model-again}
 use Rattle.systems.proofs.Standard.{standardWell, long-tables, standard-short, standard-ill, standard-over, standard-good}
 use Rattle.ways.specs.Ways.{severalNames}
 use Rattle.ways.proofs.Counts.{heads-below, row-atoms, row-h}
-use Rattle.placing.specs.Partial.{Ready, Filled}
-use Rattle.standard.specs.Short.{tooShort}
+use Rattle.placing.specs.Partial.{PlacingReady, Filled}
+use Rattle.standard.specs.Short.{shortStandard}
 
 -- areas of h, b, a, y and m entries: each that is too short settles it
 module _ (h b a y m : ℕ) where
@@ -43,34 +43,34 @@ module _ (h b a y m : ℕ) where
   lackRows = ltb a rowArea || (ltb y rowArea || ltb m rowWords)
 
   -- the heads
-  pub lack-heads : h < rules → true ≡ tooShort h b a y m
-  unfolding tooShort
+  pub lack-heads : h < rules → true ≡ shortStandard h b a y m
+  unfolding shortStandard
   lack-heads l = sym (or-left lackRows (or-left (ltb b bodyArea) (lt-ltb h rules l)))
 
   -- the bodies
-  pub lack-bodies : b < bodyArea → true ≡ tooShort h b a y m
-  unfolding tooShort
+  pub lack-bodies : b < bodyArea → true ≡ shortStandard h b a y m
+  unfolding shortStandard
   lack-bodies l = sym (or-left lackRows (or-right (ltb h rules) (lt-ltb b bodyArea l)))
 
   -- the "all" area
-  pub lack-all : a < rowArea → true ≡ tooShort h b a y m
-  unfolding tooShort
+  pub lack-all : a < rowArea → true ≡ shortStandard h b a y m
+  unfolding shortStandard
   lack-all l = sym (or-right lackRules (or-left (ltb y rowArea || ltb m rowWords) (lt-ltb a rowArea l)))
 
   -- the "any" area
-  pub lack-any : y < rowArea → true ≡ tooShort h b a y m
-  unfolding tooShort
+  pub lack-any : y < rowArea → true ≡ shortStandard h b a y m
+  unfolding shortStandard
   lack-any l = sym (or-right lackRules (or-right (ltb a rowArea) (or-left (ltb m rowWords) (lt-ltb y rowArea l))))
 
   -- else the model area decides
-  pub lack-model : rules ≤ h → bodyArea ≤ b → rowArea ≤ a → rowArea ≤ y → ltb m rowWords ≡ tooShort h b a y m
-  unfolding tooShort
+  pub lack-model : rules ≤ h → bodyArea ≤ b → rowArea ≤ a → rowArea ≤ y → ltb m rowWords ≡ shortStandard h b a y m
+  unfolding shortStandard
   lack-model p q r s = sym (rw (le-ltb h rules p, le-ltb b bodyArea q, le-ltb a rowArea r, le-ltb y rowArea s))
 
   -- where none is, each is long enough, r being the test of them all
-  pub long-enough : (r : Bool) → r ≡ tooShort h b a y m → r ≡ false
+  pub long-enough : (r : Bool) → r ≡ shortStandard h b a y m → r ≡ false
       → ((rules ≤ h) × (bodyArea ≤ b)) × ((rowArea ≤ a) × (rowArea ≤ y) × (rowWords ≤ m))
-  unfolding tooShort
+  unfolding shortStandard
   long-enough r e f =
       let p = or-none lackRules lackRows (sym e ∙ f) in
       let q = or-none (ltb h rules) (ltb b bodyArea) (p .0) in
@@ -163,7 +163,7 @@ module _ (tables : RuleTables) (counts : Counts) (formed : formedTables tables c
           (y : o₁ .any ≡ filled rowArea (packed rowWords (n + helpers) (λ i. emptySet)) (o .any))
           (z : o₁ .model ≡ withModel emptySet (o .model)) where
         -- the rules can be placed
-        pub rows-ready : StandardLong tables o → Ready tables counts marked o₁
+        pub rows-ready : StandardLong tables o → PlacingReady tables counts marked o₁
         rows-ready long =
             let u : o₁ .all ≡ filled rowArea (packed rowWords (standard p .atoms) only) (o .all) = by-atoms only (o .all) (o₁ .all) x in
             let v : o₁ .any ≡ filled rowArea (packed rowWords (standard p .atoms) (λ i. emptySet)) (o .any) =
@@ -205,9 +205,9 @@ module _ (tables : RuleTables) (counts : Counts) (formed : formedTables tables c
 
 -- `low` is whether an area is too short, `ok` whether the tables are in order
 module _ (tables : RuleTables) (counts : Counts) (o : RowAreas) (low : Bool)
-    (e : low ≡ tooShort (length (tables .heads)) (length (tables .bodies)) (length (o .all)) (length (o .any)) (length (o .model))) where
+    (e : low ≡ shortStandard (length (tables .heads)) (length (tables .bodies)) (length (o .all)) (length (o .any)) (length (o .model))) where
   short-is : low ≡ shortTables tables o
-  unfolding shortTables shortRules shortSystem tooShort
+  unfolding shortTables shortRules shortSystem shortStandard
   short-is = e
 
   -- an area too short: 1

@@ -7,5 +7,5 @@ use lib.Dec.{ltb}
 use Rattle.limits.specs.Book.{rules, rowWords, bodyArea, rowArea}
 
 -- the heads, the bodies, the "all" area, the "any" area or the model area
-unfoldable pub tooShort : ℕ → ℕ → ℕ → ℕ → ℕ → Bool
-tooShort h b a y m = (ltb h rules || ltb b bodyArea) || (ltb a rowArea || (ltb y rowArea || ltb m rowWords))
+unfoldable pub shortStandard : ℕ → ℕ → ℕ → ℕ → ℕ → Bool
+shortStandard h b a y m = (ltb h rules || ltb b bodyArea) || (ltb a rowArea || (ltb y rowArea || ltb m rowWords))

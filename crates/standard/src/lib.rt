@@ -7,7 +7,7 @@ ghost use Rattle.limits.specs.Book.{rowArea};
 ghost use Rattle.rows.specs.Clear.{Clear};
 ghost use Rattle.systems.specs.Standardise.{formedTables, standardCall};
 ghost use Rattle.systems.specs.Claims.{StandardLong};
-ghost use Rattle.standard.specs.Short.{tooShort};
+ghost use Rattle.standard.specs.Short.{shortStandard};
 
 // The number of a refusal, 0 for none; then the atoms, c and h.
 pub struct Answer {
@@ -19,7 +19,7 @@ pub struct Answer {
 
 // Whether an area is shorter than its stated size.
 fn too_short(heads: usize, bodies: usize, all: usize, any: usize, model: usize) -> bool
-    ensures { λ r. ⌜ r ≡ tooShort heads bodies all any model ⌝ }
+    ensures { λ r. ⌜ r ≡ shortStandard heads bodies all any model ⌝ }
 {
     if heads < Book::RULES {
         return true;

@@ -11,7 +11,7 @@ use lib.ListN.{length}
 use Rattle.limits.specs.Book.{atoms, folds, wordBits, rowWords, rowArea}
 use Rattle.sets.specs.Set.{Set, pick}
 use Rattle.sets.proofs.Logic.{either, clash, not-true, and-left, and-right, and-make, or-left, or-right, or-elim, holds, fails, pick-true, pick-false}
-use Rattle.program.specs.System.{unfolded}
+use Rattle.program.specs.System.{rowsAfter}
 use Rattle.tables.specs.Areas.{filled}
 use Rattle.tables.proofs.Encoding.{filled-is}
 use Rattle.systems.specs.Rows.{rowIn, formedRows}
@@ -83,10 +83,10 @@ module _ (all spare : List ℕ) (m k : ℕ) where
   -- The rows left, also those at and past the count.
 
   pub folded-rows : FoldFormed all m → (i : ℕ) → i < atoms → (a : ℕ)
-      → rowIn rowWords (foldedArea k m all) i a ≡ unfolded k m (rowIn rowWords all) i a
+      → rowIn rowWords (foldedArea k m all) i a ≡ rowsAfter k m (rowIn rowWords all) i a
   unfolding foldedArea
   folded-rows f i l a =
-      let rows : ℕ → Set = unfolded k m (rowIn rowWords all) in
+      let rows : ℕ → Set = rowsAfter k m (rowIn rowWords all) in
       let limit : m ≤ atoms = f .0 in
       let inside : rows i a ≡ true → (i < m) × (a < m) = unfolded-in k atoms m (rowIn rowWords all) limit (f .1) i a l in
       either (ltb i m)

@@ -12,7 +12,7 @@ use Rattle.limits.specs.Book.{wordBits}
 use Rattle.sets.specs.Set.{Set, Same, pick, exists, within, meets}
 use Rattle.sets.proofs.Logic.{either, clash, iff, and-left, and-right, and-make}
 use Rattle.sets.proofs.Tests.{every-at, every-make, exists-make, exists-find, exists-same, within-at, within-make, within-same, meets-make, meets-find, meets-same}
-use Rattle.program.specs.System.{System, anyHead, allStep, round, unfoldOnce, unfolded}
+use Rattle.program.specs.System.{System, anyHead, allStep, round, unfoldOnce, rowsAfter}
 use Rattle.systems.specs.Rows.{rowIn, formedRows}
 use Rattle.systems.proofs.Packed.{row-in-past}
 
@@ -63,10 +63,10 @@ unfold-in n m rows b h i k l e =
     let q = unfold-find m rows i k e in
     (h i (q .0) l (q .2) .0, h (q .0) k (le-trans (q .1) b) (q .3) .1)
 
-pub unfolded-in : (k n m : ℕ) (rows : ℕ → Set) → m ≤ n → Below n m rows → Below n m (unfolded k m rows)
-unfolding unfolded
+pub unfolded-in : (k n m : ℕ) (rows : ℕ → Set) → m ≤ n → Below n m rows → Below n m (rowsAfter k m rows)
+unfolding rowsAfter
 unfolded-in zero n m rows b h = h
-unfolded-in (suc k) n m rows b h = unfold-in n m (unfolded k m rows) b (unfolded-in k n m rows b h)
+unfolded-in (suc k) n m rows b h = unfold-in n m (rowsAfter k m rows) b (unfolded-in k n m rows b h)
 
 -- rows that are the same below m are folded alike
 pub unfold-same : (m : ℕ) (f g : ℕ → Set) → ((i : ℕ) → i < m → Same m (f i) (g i))
@@ -76,10 +76,10 @@ unfold-same m f g h i l a b =
     exists-same m (λ j. f i j && f j a) (λ j. g i j && g j a) (λ j c. ap₂ _&&_ (h i l j c) (h j c a b))
 
 pub unfolded-same : (k m : ℕ) (f g : ℕ → Set) → ((i : ℕ) → i < m → Same m (f i) (g i))
-    → (i : ℕ) → i < m → Same m (unfolded k m f i) (unfolded k m g i)
-unfolding unfolded
+    → (i : ℕ) → i < m → Same m (rowsAfter k m f i) (rowsAfter k m g i)
+unfolding rowsAfter
 unfolded-same zero m f g h = h
-unfolded-same (suc k) m f g h = unfold-same m (unfolded k m f) (unfolded k m g) (unfolded-same k m f g h)
+unfolded-same (suc k) m f g h = unfold-same m (rowsAfter k m f) (rowsAfter k m g) (unfolded-same k m f g h)
 
 -- Rounds.
 

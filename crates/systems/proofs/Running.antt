@@ -17,12 +17,12 @@ use Rattle.sets.proofs.Rounds.{rounds-first, reached-least}
 use Rattle.sets.proofs.Running.{step-sees, rounds-few}
 use Rattle.words.specs.Row.{Words, pack, part, put}
 use Rattle.words.proofs.Rows.{length-pack}
-use Rattle.program.specs.System.{System, round, unfolded, roundsOf, heldBy}
+use Rattle.program.specs.System.{System, round, rowsAfter, roundsOf, heldBy}
 use Rattle.program.proofs.Folds.{round-folded}
 use Rattle.program.proofs.Alike as Alike
 use Rattle.tables.proofs.Encoding.{drop-begun}
 use Rattle.systems.specs.Rows.{RowAreas, below, formedRows}
-use Rattle.systems.specs.Rounds.{RoundsOutcome, modelIn, withModel, systemIn, shortSystem, formedSystem, startKept, roundsRefusal, runOf, roundsCall}
+use Rattle.systems.specs.Rounds.{RoundsOutcome, modelIn, withModel, systemIn, shortSystem, formedSystem, startKept, roundsRefusal, roundsMade, roundsCall}
 use Rattle.systems.specs.Claims.{RoundsLong, RoundsFormed, Lost, Runs}
 use Rattle.systems.proofs.Packed.{part-past, put-front, set-none, set-words, set-row, length-set, set-again, set-same, set-known, set-joined, set-below, set-below-past}
 use Rattle.systems.proofs.Formed.{formed-at, formed-make, within-fewer}
@@ -129,7 +129,7 @@ model-below-past = set-below-past rowWords
 
 -- a larger set goes to a larger set
 pub round-mono : (s : System) → Monotone (s .atoms) (round s)
-unfolding unfolded
+unfolding rowsAfter
 round-mono s = subst (Monotone (s .atoms)) (sym (round-folded s 0)) (Alike.round-mono s 1)
 
 -- the start set is kept where it lies within what one round makes of it, up to any bound past the atoms
@@ -234,7 +234,7 @@ module _ (o : RowAreas) where
 
     -- areas long enough, rows in order and the start set kept: the rounds
     pub call-runs : RoundsLong o → RoundsFormed o m → startKept s ≡ true
-        → roundsCall o m ≡ runOf s model
+        → roundsCall o m ≡ roundsMade s model
     unfolding roundsCall pick
     call-runs l f e = rw (long-make l, order-make f, e, pick)
 
@@ -280,8 +280,8 @@ module _ (o : RowAreas) where
           past = λ q. absurd (omega arith);
         }
 
-        way-run : startKept s ≡ true → Runs o m s (runOf s model)
-        unfolding runOf roundsOf heldBy
+        way-run : startKept s ≡ true → Runs o m s (roundsMade s model)
+        unfolding roundsMade roundsOf heldBy
         way-run e =
             let w : Within m (s .start) (round s (s .start)) = start-rises s e in
             let h : m ≤ rowWords * wordBits = formed .0 in
@@ -307,7 +307,7 @@ unfolding roundsCall
 runs o m =
     let s : System = systemIn o m in
     let refused : RoundsOutcome = roundsRefusal 1 (o .model) in
-    let lost-out : RoundsOutcome = pick (startKept s) (runOf s (o .model)) (roundsRefusal 11 (o .model)) in
+    let lost-out : RoundsOutcome = pick (startKept s) (roundsMade s (o .model)) (roundsRefusal 11 (o .model)) in
     let rest : RoundsOutcome = pick (formedSystem o m) lost-out (roundsRefusal 10 (o .model)) in
     let P : RoundsOutcome → Type 0 = λ r. Runs o m s r in
     either (shortSystem o)
@@ -318,7 +318,7 @@ runs o m =
     (λ f. subst P (sym (pick-true lost-out (roundsRefusal 10 (o .model)) f))
     (let g = in-order o m f in
     either (startKept s)
-    (λ k. subst P (sym (pick-true (runOf s (o .model)) (roundsRefusal 11 (o .model)) k)) (way-run o m l g k))
-    (λ k. subst P (sym (pick-false (runOf s (o .model)) (roundsRefusal 11 (o .model)) k)) (way-lost o m l g (lost s k)))))
+    (λ k. subst P (sym (pick-true (roundsMade s (o .model)) (roundsRefusal 11 (o .model)) k)) (way-run o m l g k))
+    (λ k. subst P (sym (pick-false (roundsMade s (o .model)) (roundsRefusal 11 (o .model)) k)) (way-lost o m l g (lost s k)))))
     (λ f. subst P (sym (pick-false lost-out (roundsRefusal 10 (o .model)) f))
     (way-ill o m l (λ p. clash (order-make o m p) f)))))

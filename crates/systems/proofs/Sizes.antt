@@ -18,17 +18,17 @@ use Rattle.sets.proofs.Tests.{every-same, exists-same, within-same}
 use Rattle.sets.proofs.Rounds.{rounds-agree, reached-agree}
 use Rattle.words.specs.Row.{row, pack, part}
 use Rattle.words.proofs.Rows.{length-pack}
-use Rattle.program.specs.Program.{Rule, Program, blank}
-use Rattle.program.specs.System.{System, round, unfoldOnce, unfolded, roundsOf, heldBy}
+use Rattle.program.specs.Program.{Rule, Program, noRule}
+use Rattle.program.specs.System.{System, round, unfoldOnce, rowsAfter, roundsOf, heldBy}
 use Rattle.program.specs.Standard.{allRow, anyRow, startSet, standard}
 use Rattle.tables.specs.Areas.{Areas, RuleTables, Counts, filled, ruleAt, rulesFrom, rulesOnly, programIn}
 use Rattle.tables.specs.Begun.{begun}
 use Rattle.tables.proofs.Encoding.{length-rulesFrom, getD-rulesFrom}
 use Rattle.systems.specs.Rows.{RowAreas, rowIn, packed, below, formedRows}
 use Rattle.systems.specs.Fold.{FoldOutcome, shortRows, formedAll, foldRefusal, foldedArea, foldCall}
-use Rattle.systems.specs.Rounds.{RoundsOutcome, modelIn, withModel, systemIn, shortSystem, formedSystem, startKept, roundsRefusal, runOf, roundsCall}
+use Rattle.systems.specs.Rounds.{RoundsOutcome, modelIn, withModel, systemIn, shortSystem, formedSystem, startKept, roundsRefusal, roundsMade, roundsCall}
 use Rattle.systems.specs.Standardise.{StandardOutcome, shortRules, shortTables, formedEntry, formedTables, standardRefusal, standardRows, standardOf, standardCall}
-use Rattle.systems.specs.Sizes.{foldWithRest, roundsWithRest, statedTables, statedRows, rowsWithRest, standardWithRest, StatedSizes}
+use Rattle.systems.specs.Sizes.{foldWithRest, roundsWithRest, statedRules, statedRows, rowsWithRest, standardWithRest, StatedSizes}
 use Rattle.systems.proofs.Packed.{length-packed, packed-same}
 use Rattle.systems.proofs.Formed.{round-same}
 use Rattle.systems.proofs.Bridge.{formed-limits}
@@ -111,17 +111,17 @@ unfold-rows m f g h i l =
     fun-ext (λ a. exists-same m (λ j. f i j && f j a) (λ j. g i j && g j a)
     (λ j b. ap₂ (λ (s t : Set). s j && t a) (h i l) (h j b)))
 
-unfolded-rows : (k m : ℕ) (f g : ℕ → Set) → ((i : ℕ) → i < m → f i ≡ g i) → (i : ℕ) → i < m → unfolded k m f i ≡ unfolded k m g i
-unfolding unfolded
+unfolded-rows : (k m : ℕ) (f g : ℕ → Set) → ((i : ℕ) → i < m → f i ≡ g i) → (i : ℕ) → i < m → rowsAfter k m f i ≡ rowsAfter k m g i
+unfolding rowsAfter
 unfolded-rows zero m f g h = h
-unfolded-rows (suc k) m f g h = unfold-rows m (unfolded k m f) (unfolded k m g) (unfolded-rows k m f g h)
+unfolded-rows (suc k) m f g h = unfold-rows m (rowsAfter k m f) (rowsAfter k m g) (unfolded-rows k m f g h)
 
 -- the folded rows
 folded-first : (k m : ℕ) (all : List ℕ) → m ≤ atoms → foldedArea k m all ≡ foldedArea k m (take rowArea all) ++ drop rowArea all
 unfolding foldedArea
 folded-first k m all l =
-    let f : ℕ → Set = unfolded k m (rowIn rowWords all) in
-    let g : ℕ → Set = unfolded k m (rowIn rowWords (take rowArea all)) in
+    let f : ℕ → Set = rowsAfter k m (rowIn rowWords all) in
+    let g : ℕ → Set = rowsAfter k m (rowIn rowWords (take rowArea all)) in
     let same : (i : ℕ) → i < m → f i ≡ g i =
     unfolded-rows k m (rowIn rowWords all) (rowIn rowWords (take rowArea all)) (row-first rowWords m rowArea all (omega arith))
     in
@@ -197,8 +197,8 @@ module _ (o : RowAreas) (m : ℕ) where
     unfolding startKept
     kept-first = within-same m (s .start) (s′ .start) (round s (s .start)) (round s′ (s′ .start)) starts (agree (s .start) (s′ .start) starts)
 
-    run-first : runOf s model ≡ roundsWithRest model (runOf s′ (take rowWords model))
-    unfolding runOf roundsOf heldBy
+    run-first : roundsMade s model ≡ roundsWithRest model (roundsMade s′ (take rowWords model))
+    unfolding roundsMade roundsOf heldBy
     run-first =
         let held : below m (heldBy s) ≡ below m (heldBy s′) =
         below-same m (heldBy s) (heldBy s′) (reached-agree m (round s) (round s′) agree (s .start) (s′ .start) starts)
@@ -231,19 +231,19 @@ module _ (o : RowAreas) (m : ℕ) where
 -- rules read from tables that agree where they are read
 rules-alike : (o o′ : Areas) (m : ℕ) → ((j : ℕ) → j < m → ruleAt o j ≡ ruleAt o′ j) → rulesFrom o m 0 ≡ rulesFrom o′ m 0
 rules-alike o o′ m h =
-    ext-getD blank (rulesFrom o m 0) (rulesFrom o′ m 0) (length-rulesFrom o m 0 ∙ sym (length-rulesFrom o′ m 0))
+    ext-getD noRule (rulesFrom o m 0) (rulesFrom o′ m 0) (length-rulesFrom o m 0 ∙ sym (length-rulesFrom o′ m 0))
     (λ j l.
     let b : j < m = omega (arith, length-rulesFrom o m 0) in
     getD-rulesFrom o m 0 j b ∙ h (0 + j) (omega arith) ∙ sym (getD-rulesFrom o′ m 0 j b))
 
 module _ (tables : RuleTables) (counts : Counts) where
-  head-first : (j : ℕ) → j < rules → getD (tables .heads) j 0 ≡ getD (statedTables tables .heads) j 0
+  head-first : (j : ℕ) → j < rules → getD (tables .heads) j 0 ≡ getD (statedRules tables .heads) j 0
   head-first j l = sym (getD-take rules (tables .heads) j 0 l)
 
-  body-first : (j : ℕ) → j < rules → rowIn bodyWords (tables .bodies) j ≡ rowIn bodyWords (statedTables tables .bodies) j
+  body-first : (j : ℕ) → j < rules → rowIn bodyWords (tables .bodies) j ≡ rowIn bodyWords (statedRules tables .bodies) j
   body-first = row-first bodyWords rules bodyArea (tables .bodies) (omega arith)
 
-  entry-first : (j : ℕ) → j < rules → formedEntry tables counts j ≡ formedEntry (statedTables tables) counts j
+  entry-first : (j : ℕ) → j < rules → formedEntry tables counts j ≡ formedEntry (statedRules tables) counts j
   unfolding formedEntry
   entry-first j l =
       ap₂ (λ (x : ℕ) (f : Set). pick (ltb j (counts .rules))
@@ -251,17 +251,17 @@ module _ (tables : RuleTables) (counts : Counts) where
       (eqb x 0 && not (exists (bodyWords * wordBits) f)))
       (head-first j l) (body-first j l)
 
-  formed-tables-first : formedTables tables counts ≡ formedTables (statedTables tables) counts
+  formed-tables-first : formedTables tables counts ≡ formedTables (statedRules tables) counts
   unfolding formedTables
   formed-tables-first =
       ap (λ (b : Bool). (leb (counts .names) names && leb (counts .rules) rules) && b)
-      (every-same rules (formedEntry tables counts) (formedEntry (statedTables tables) counts) entry-first)
+      (every-same rules (formedEntry tables counts) (formedEntry (statedRules tables) counts) entry-first)
 
-  program-first : counts .rules ≤ rules → programIn tables counts ≡ programIn (statedTables tables) counts
+  program-first : counts .rules ≤ rules → programIn tables counts ≡ programIn (statedRules tables) counts
   unfolding ruleAt
   program-first b =
       ap (λ (rs : List (Rule ℕ)). record { names = counts .names; rules = rs })
-      (rules-alike (rulesOnly (tables .heads) (tables .bodies)) (rulesOnly (statedTables tables .heads) (statedTables tables .bodies)) (counts .rules)
+      (rules-alike (rulesOnly (tables .heads) (tables .bodies)) (rulesOnly (statedRules tables .heads) (statedRules tables .bodies)) (counts .rules)
       (λ j l. ap₂ (λ (x : ℕ) (f : Set). record { head = x; body = f }) (head-first j (le-trans l b)) (body-first j (le-trans l b))))
 
 module _ (o : RowAreas) where
@@ -292,7 +292,7 @@ module _ (o : RowAreas) where
 
   module _ (tables : RuleTables) (counts : Counts) where
     standard-first : standardCall tables counts o
-        ≡ standardWithRest o (standardCall (statedTables tables) counts (statedRows o))
+        ≡ standardWithRest o (standardCall (statedRules tables) counts (statedRows o))
     unfolding standardCall shortTables shortRules
     standard-first =
         let rest : StandardOutcome → StandardOutcome = standardWithRest o in

@@ -15,7 +15,7 @@ use Rattle.sets.proofs.Logic.{either, clash}
 use Rattle.sets.proofs.Tests.{within-make}
 use Rattle.sets.proofs.Rounds.{rounds-agree, reached-agree}
 use Rattle.program.specs.Program.{Program, WellFormed}
-use Rattle.program.specs.System.{System, round, unfolded, folded, roundsOf, heldBy}
+use Rattle.program.specs.System.{System, round, rowsAfter, folded, roundsOf, heldBy}
 use Rattle.program.specs.Standard.{allRow, anyRow, startSet, standard}
 use Rattle.program.specs.Claims.{LeastModel}
 use Rattle.program.proofs.Homes.{names-below}
@@ -24,7 +24,7 @@ use Rattle.tables.specs.Areas.{RuleTables, Counts, programIn}
 use Rattle.tables.proofs.Encoding.{length-begun, length-filled}
 use Rattle.systems.specs.Rows.{RowAreas, rowIn, packed}
 use Rattle.systems.specs.Fold.{FoldOutcome, shortRows, formedAll, foldedArea, foldCall}
-use Rattle.systems.specs.Rounds.{RoundsOutcome, modelIn, systemIn, startKept, runOf}
+use Rattle.systems.specs.Rounds.{RoundsOutcome, modelIn, systemIn, startKept, roundsMade}
 use Rattle.systems.specs.Standardise.{StandardOutcome, shortTables, formedTables, standardRows, standardOf, standardCall}
 use Rattle.systems.specs.Claims.{InCount, RoundsLong, Folds, Standardises, foldAfter, roundsAfter, Stages}
 use Rattle.systems.proofs.Packed.{length-packed}
@@ -39,8 +39,8 @@ use Rattle.systems.proofs.Running.{length-model, model-below, call-runs
 length-folded : (k m : ℕ) (all : List ℕ) → m ≤ atoms → rowArea ≤ length all → length (foldedArea k m all) ≡ length all
 unfolding foldedArea
 length-folded k m all b l =
-    let rows : List ℕ = packed rowWords m (unfolded k m (rowIn rowWords all)) in
-    let n : length rows ≡ m * rowWords = length-packed rowWords m (unfolded k m (rowIn rowWords all)) in
+    let rows : List ℕ = packed rowWords m (rowsAfter k m (rowIn rowWords all)) in
+    let n : length rows ≡ m * rowWords = length-packed rowWords m (rowsAfter k m (rowIn rowWords all)) in
     length-begun rows all (omega arith)
 
 -- folding leaves the area as long as it was
@@ -161,7 +161,7 @@ module _
     all-same i l a b =
         fold-claims .rows fold-number i (omega (arith, limit)) a
         ∙ unfolded-same k M (rowIn rowWords (r .areas .all)) (allRow p) (λ i l a b. st .all-row z i l a) i l a b
-        ∙ ap (λ (x : ℕ). unfolded k x (allRow p) i a) is-atoms
+        ∙ ap (λ (x : ℕ). rowsAfter k x (allRow p) i a) is-atoms
 
     -- they make the same rounds, from the same start
     agree : (v w : Set) → Same M v w → Same M (round S v) (round D w)
@@ -186,20 +186,20 @@ module _
         agree (S .start) (startSet p) starts i l
         ∙ claims .rounds .start i (omega (arith, is-atoms)) (sym (starts i l) ∙ t))
 
-    runs-so : roundsAfter r spare k ≡ runOf S (r .areas .model)
+    runs-so : roundsAfter r spare k ≡ roundsMade S (r .areas .model)
     runs-so =
         let l : rowArea ≤ length (F .all) = omega (arith, long .0, length-fold (r .areas .all) spare M k) in
         call-runs after M (l, long .1, long .2) (limit, folded-in, any-in, start-in) kept
 
     -- and they and their last set are the definition's
     rounds-same : roundsAfter r spare k .rounds ≡ roundsOf D
-    unfolding runOf roundsOf
+    unfolding roundsMade roundsOf
     rounds-same =
         ap (λ (x : RoundsOutcome). x .rounds) runs-so ∙ rounds-agree M (round S) (round D) agree (S .start) (startSet p) starts
         ∙ ap (λ (x : ℕ). rounds x (round D) (startSet p)) is-atoms
 
     held-same : Same M (modelIn (roundsAfter r spare k .model)) (heldBy D)
-    unfolding runOf heldBy
+    unfolding roundsMade heldBy
     held-same i l =
         ap (λ (x : RoundsOutcome). modelIn (x .model) i) runs-so ∙ model-below M (heldBy S) (r .areas .model) limit i l
         ∙ reached-agree M (round S) (round D) agree (S .start) (startSet p) starts i l
@@ -211,7 +211,7 @@ module _
         let number : RoundsOutcome → ℕ = λ x. x .number in
         record {
           folds-number = fold-number;
-          rounds-number = ap number runs-so ∙ unfold runOf in refl;
+          rounds-number = ap number runs-so ∙ unfold roundsMade in refl;
           rows = all-same;
           rounds = rounds-same;
           held = held-same;

@@ -12,7 +12,7 @@ use Rattle.limits.specs.Book.{names, rules, atoms, folds, rowWords, bodyWords, 
 use Rattle.sets.specs.Set.{Within, Same, count}
 use Rattle.sets.specs.Steps.{First, Least}
 use Rattle.program.specs.Program.{Program, WellFormed, InEveryModel, size}
-use Rattle.program.specs.System.{System, Regular, round, unfolded, folded, roundsOf, heldBy}
+use Rattle.program.specs.System.{System, Regular, round, rowsAfter, folded, roundsOf, heldBy}
 use Rattle.program.specs.Standard.{ways, hasBody, countedAtoms, allRow, anyRow, startSet, standard}
 use Rattle.tables.specs.Areas.{RuleTables, Counts, programIn}
 use Rattle.systems.specs.Rows.{RowAreas, rowIn}
@@ -40,7 +40,7 @@ pub record Folds (all spare : List ℕ) (m k : ℕ) (r : FoldOutcome) : Type 0 w
   pub ill : (r .number ≡ 10) ↔ (FoldLong all spare × (k ≤ folds) × (FoldFormed all m → ⊥))
   pub kept : (r .number ≡ 0 → ⊥) → (r .all ≡ all) × (r .spare ≡ spare)
   -- each row is the definition's after k folds, over the rows as they were
-  pub rows : r .number ≡ 0 → (i : ℕ) → i < atoms → (a : ℕ) → rowIn rowWords (r .all) i a ≡ unfolded k m (rowIn rowWords all) i a
+  pub rows : r .number ≡ 0 → (i : ℕ) → i < atoms → (a : ℕ) → rowIn rowWords (r .all) i a ≡ rowsAfter k m (rowIn rowWords all) i a
   -- the spare is zero over its stated size, for every k
   pub zero-spare : r .number ≡ 0 → r .spare ≡ replicate rowArea 0 ++ drop rowArea spare
 

@@ -7,7 +7,7 @@ use lib.Dec.{leb, ltb}
 use lib.ListN.{length}
 use Rattle.limits.specs.Book.{atoms, folds, rowWords, rowArea}
 use Rattle.sets.specs.Set.{pick}
-use Rattle.program.specs.System.{unfolded}
+use Rattle.program.specs.System.{rowsAfter}
 use Rattle.tables.specs.Areas.{filled}
 use Rattle.tables.specs.Begun.{begun}
 use Rattle.systems.specs.Rows.{rowIn, packed, formedRows}
@@ -32,7 +32,7 @@ foldRefusal number all spare = record { number = number; all = all; spare = spar
 
 -- the rows of the first m atoms after k folds, taken from the rows as they were
 unfoldable pub foldedArea : ℕ → ℕ → List ℕ → List ℕ
-foldedArea k m all = begun (packed rowWords m (unfolded k m (rowIn rowWords all))) all
+foldedArea k m all = begun (packed rowWords m (rowsAfter k m (rowIn rowWords all))) all
 
 -- areas too short, folds over 8, rows ill formed; else the folded rows, and zeros in the spare
 unfoldable pub foldCall : List ℕ → List ℕ → ℕ → ℕ → FoldOutcome

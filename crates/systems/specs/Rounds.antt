@@ -51,13 +51,13 @@ abbrev pub roundsRefusal : ℕ → List ℕ → RoundsOutcome
 roundsRefusal number model = record { number = number; rounds = 0; model = model }
 
 -- the rounds of a system, and the last set in the model area
-unfoldable pub runOf : System → List ℕ → RoundsOutcome
-runOf s model = record { number = 0; rounds = roundsOf s; model = withModel (below (s .atoms) (heldBy s)) model }
+unfoldable pub roundsMade : System → List ℕ → RoundsOutcome
+roundsMade s model = record { number = 0; rounds = roundsOf s; model = withModel (below (s .atoms) (heldBy s)) model }
 
 -- areas too short, rows ill formed, a start atom lost; else the rounds
 unfoldable pub roundsCall : RowAreas → ℕ → RoundsOutcome
 roundsCall o m =
     pick (shortSystem o) (roundsRefusal 1 (o .model))
     (pick (formedSystem o m)
-    (pick (startKept (systemIn o m)) (runOf (systemIn o m) (o .model)) (roundsRefusal 11 (o .model)))
+    (pick (startKept (systemIn o m)) (roundsMade (systemIn o m) (o .model)) (roundsRefusal 11 (o .model)))
     (roundsRefusal 10 (o .model)))

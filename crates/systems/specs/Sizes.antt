@@ -21,8 +21,8 @@ abbrev pub roundsWithRest : List ℕ → RoundsOutcome → RoundsOutcome
 roundsWithRest model r = record { number = r .number; rounds = r .rounds; model = r .model ++ drop rowWords model }
 
 -- tables, cut to their stated sizes
-abbrev pub statedTables : RuleTables → RuleTables
-statedTables tables = record { heads = take rules (tables .heads); bodies = take bodyArea (tables .bodies) }
+abbrev pub statedRules : RuleTables → RuleTables
+statedRules tables = record { heads = take rules (tables .heads); bodies = take bodyArea (tables .bodies) }
 
 -- areas of rows, cut to their stated sizes
 abbrev pub statedRows : RowAreas → RowAreas
@@ -47,4 +47,4 @@ pub record StatedSizes : Type 0 where
       → foldCall all spare m k ≡ foldWithRest all spare (foldCall (take rowArea all) (take rowArea spare) m k)
   pub rounds : (o : RowAreas) (m : ℕ) → roundsCall o m ≡ roundsWithRest (o .model) (roundsCall (statedRows o) m)
   pub standardise : (tables : RuleTables) (counts : Counts) (o : RowAreas)
-      → standardCall tables counts o ≡ standardWithRest o (standardCall (statedTables tables) counts (statedRows o))
+      → standardCall tables counts o ≡ standardWithRest o (standardCall (statedRules tables) counts (statedRows o))

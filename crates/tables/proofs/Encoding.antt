@@ -15,7 +15,7 @@ use Rattle.sets.proofs.Logic.{either, and-left, and-right, or-none, pick-true}
 use Rattle.words.specs.Row.{row, Words, pack, part, put}
 use Rattle.words.proofs.Rows.{length-pack, row-pack, row-past, pack-row}
 use Rattle.words.proofs.Areas.{length-part, words-part}
-use Rattle.program.specs.Program.{Rule, blank}
+use Rattle.program.specs.Program.{Rule, noRule}
 use Rattle.grammar.specs.Bytes.{Bytes, allOf}
 use Rattle.grammar.specs.Lines.{span, run}
 use Rattle.tables.specs.Areas.{Areas, short, filled, filledWith, padded, nameRows, headRows, bodyRows, nonzero}
@@ -215,10 +215,10 @@ rows-names area n h t = rows-from area n 0 (omega arith) (λ i l. t i (omega ari
 
 -- no body has a member at or past 128
 abbrev pub Low : List (Rule ℕ) → Type 0
-Low rs = (j a : ℕ) → j < length rs → names ≤ a → getD rs j blank .body a ≡ false
+Low rs = (j a : ℕ) → j < length rs → names ≤ a → getD rs j noRule .body a ≡ false
 
 -- head j
-getD-headRows : (rs : List (Rule ℕ)) (x : List ℕ) (j : ℕ) → j < length rs → getD (headRows rs ++ x) j 0 ≡ getD rs j blank .head
+getD-headRows : (rs : List (Rule ℕ)) (x : List ℕ) (j : ℕ) → j < length rs → getD (headRows rs ++ x) j 0 ≡ getD rs j noRule .head
 unfolding headRows
 getD-headRows [] x j l = absurd (omega arith)
 getD-headRows (r ∷ rs) x zero l = refl
@@ -226,7 +226,7 @@ getD-headRows (r ∷ rs) x (suc j) l = getD-headRows rs x j (omega arith)
 
 -- body j
 part-bodyRows : (rs : List (Rule ℕ)) (y : List ℕ) (j : ℕ) → j < length rs
-    → part (j * bodyWords) bodyWords (bodyRows rs ++ y) ≡ pack bodyWords (getD rs j blank .body)
+    → part (j * bodyWords) bodyWords (bodyRows rs ++ y) ≡ pack bodyWords (getD rs j noRule .body)
 unfolding bodyRows
 part-bodyRows [] y j l = absurd (omega arith)
 part-bodyRows (r ∷ rs) y zero l =
@@ -249,17 +249,17 @@ row-pack-low f h =
 
 -- rule j of the rows of rules is rule j of them
 pub rule-at : (rs : List (Rule ℕ)) (x y : List ℕ) (o : Areas) → o .heads ≡ headRows rs ++ x → o .bodies ≡ bodyRows rs ++ y
-    → Low rs → (j : ℕ) → j < length rs → ruleAt o j ≡ getD rs j blank
+    → Low rs → (j : ℕ) → j < length rs → ruleAt o j ≡ getD rs j noRule
 unfolding ruleAt
 rule-at rs x y o p q h j l =
     ap₂ (λ (k : ℕ) (f : Set). record { head = k; body = f })
     (ap (λ (k : List ℕ). getD k j 0) p ∙ getD-headRows rs x j l)
     (ap (λ (k : List ℕ). row (part (j * bodyWords) bodyWords k)) q ∙ ap row (part-bodyRows rs y j l)
-    ∙ row-pack-low (getD rs j blank .body) (λ a m. h j a l m))
+    ∙ row-pack-low (getD rs j noRule .body) (λ a m. h j a l m))
 
 -- rules read one by one
 rules-from : (o : Areas) (rs : List (Rule ℕ)) (j : ℕ)
-    → ((i : ℕ) → i < length rs → ruleAt o (j + i) ≡ getD rs i blank) → rulesFrom o (length rs) j ≡ rs
+    → ((i : ℕ) → i < length rs → ruleAt o (j + i) ≡ getD rs i noRule) → rulesFrom o (length rs) j ≡ rs
 unfolding rulesFrom
 rules-from o [] j h = refl
 rules-from o (r ∷ rs) j h =
@@ -281,7 +281,7 @@ length-rulesFrom o zero j = refl
 length-rulesFrom o (suc k) j = ap suc (length-rulesFrom o k (suc j))
 
 -- each as it stands in its row
-pub getD-rulesFrom : (o : Areas) (k j i : ℕ) → i < k → getD (rulesFrom o k j) i blank ≡ ruleAt o (j + i)
+pub getD-rulesFrom : (o : Areas) (k j i : ℕ) → i < k → getD (rulesFrom o k j) i noRule ≡ ruleAt o (j + i)
 unfolding rulesFrom
 getD-rulesFrom o zero j i l = absurd (omega arith)
 getD-rulesFrom o (suc k) j zero l = let z : j ≡ j + 0 = omega arith in ap (ruleAt o) z

@@ -15,7 +15,7 @@ use Rattle.sets.specs.Set.{Set}
 use Rattle.sets.proofs.Logic.{either, clash, not-true, and-left, and-right, and-make, or-left, or-right, or-elim, pick-true, pick-false}
 use Rattle.words.specs.Row.{pack}
 use Rattle.words.proofs.Rows.{length-pack}
-use Rattle.program.specs.Program.{Rule, blank}
+use Rattle.program.specs.Program.{Rule, noRule}
 use Rattle.grammar.specs.Bytes.{Bytes, Among}
 use Rattle.grammar.specs.Grammar.{Clause}
 use Rattle.tables.specs.Numbering.{sameBytes, place, meet, meetAll, standing, namesOf, places, numbered, programOf}
@@ -379,7 +379,7 @@ places-below ns (x ∷ xs) h a e =
 
 -- heads are below the number of names
 heads-below : (ns : List Bytes) (cs : List Clause) → ((x : Bytes) → Among x (standing cs) → place ns x < length ns)
-    → (j : ℕ) → j < length (map (numbered ns) cs) → getD (map (numbered ns) cs) j blank .head < length ns
+    → (j : ℕ) → j < length (map (numbered ns) cs) → getD (map (numbered ns) cs) j noRule .head < length ns
 unfolding numbered standing Among
 heads-below ns [] h j l = absurd (omega arith)
 heads-below ns (c ∷ cs) h zero l = h (c .head) (inl refl)
@@ -387,7 +387,7 @@ heads-below ns (c ∷ cs) h (suc j) l = heads-below ns cs (λ x m. h x (among-ri
 
 -- and so are the members of bodies
 bodies-below : (ns : List Bytes) (cs : List Clause) → ((x : Bytes) → Among x (standing cs) → place ns x < length ns)
-    → (j a : ℕ) → j < length (map (numbered ns) cs) → getD (map (numbered ns) cs) j blank .body a ≡ true → a < length ns
+    → (j a : ℕ) → j < length (map (numbered ns) cs) → getD (map (numbered ns) cs) j noRule .body a ≡ true → a < length ns
 unfolding numbered standing Among
 bodies-below ns [] h j a l e = absurd (omega arith)
 bodies-below ns (c ∷ cs) h zero a l e =
@@ -434,4 +434,4 @@ numbers cs = record {
 pub book-low : (cs : List Clause) → length (namesOf cs) ≤ names → Low (map (numbered (namesOf cs)) cs)
 unfolding programOf
 book-low cs fits j a l h =
-    not-true (getD (map (numbered (namesOf cs)) cs) j blank .body a) (λ e. omega (arith, numbers cs .formed .bodies j a l e))
+    not-true (getD (map (numbered (namesOf cs)) cs) j noRule .body a) (λ e. omega (arith, numbers cs .formed .bodies j a l e))

@@ -6,7 +6,7 @@ use mathlib.Core.List.{List, [], _∷_, map}
 use Prim.Native.Nat.{ℕ, zero, suc, _+_, _-_, _/_, _%_}
 use Prim.Native.String.{String}
 use Rattle.sets.specs.Set.{pick, members}
-use Rattle.grammar.specs.Bytes.{Bytes, bytes, blank, small, folded, nameByte, allOf}
+use Rattle.grammar.specs.Bytes.{Bytes, bytes, blank, small, ourLetters, nameByte, allOf}
 use Rattle.grammar.specs.Grammar.{Clause, rule, joined}
 use Rattle.grammar.specs.Lines.{span, grown, lines, goesOn, wordsOf, isName, allNames, fromColon, fromHead, starts, formOf}
 use Rattle.tables.specs.Numbering.{sameBytes, place, meet, meetAll, standing, namesOf, places, numbered}
@@ -38,8 +38,8 @@ table =
     ∷ []
 
 -- they come to that
-pub texts-agree : map (λ (x : Sample). come-to (reading folded (bytes (x .0)))) table ≡ map (λ (x : Sample). (x .1, x .2, bytes (x .3))) table
-unfolding pick members blank small folded nameByte allOf joined span grown lines goesOn wordsOf isName allNames fromColon fromHead starts formOf sameBytes place meet meetAll standing namesOf places numbered lineCause taken readLines bookOf reading spacedOn spaced ruleText written
+pub texts-agree : map (λ (x : Sample). come-to (reading ourLetters (bytes (x .0)))) table ≡ map (λ (x : Sample). (x .1, x .2, bytes (x .3))) table
+unfolding pick members blank small ourLetters nameByte allOf joined span grown lines goesOn wordsOf isName allNames fromColon fromHead starts formOf sameBytes place meet meetAll standing namesOf places numbered lineCause taken readLines bookOf reading spacedOn spaced ruleText written
 texts-agree = refl
 
 -- Lines at the limits of names and rules, built from numbers; as text they are in the crate `known`.

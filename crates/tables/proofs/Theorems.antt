@@ -5,7 +5,7 @@ use mathlib.Core.List.{List, [], _∷_}
 use Prim.Native.Nat.{ℕ, _<_, _≤_}
 use lib.ListN.{length, getD}
 use Rattle.limits.specs.Book.{names, rules}
-use Rattle.grammar.specs.Bytes.{Bytes, Folding, folded, Among}
+use Rattle.grammar.specs.Bytes.{Bytes, Folding, ourLetters, Among}
 use Rattle.grammar.specs.Grammar.{Clause, rule}
 use Rattle.grammar.specs.Lines.{formOf}
 use Rattle.grammar.proofs.Folding.{folding as ours}
@@ -33,8 +33,8 @@ pub read-calls : (fold : ℕ → ℕ) → Folding fold → ReadCalls fold
 read-calls fold folding = calls.read-calls fold (reads fold folding)
 
 -- with document 01's letters: demand 1 for reading, and that the tables read are exactly those of the grammar
-pub books-read : ReadCalls folded
-books-read = read-calls folded ours
+pub books-read : ReadCalls ourLetters
+books-read = read-calls ourLetters ours
 
 module _ (fold : ℕ → ℕ) (folding : Folding fold) where
   -- what is read fits

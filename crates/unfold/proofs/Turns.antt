@@ -13,7 +13,7 @@ use Rattle.sets.proofs.Logic.{iff}
 use Rattle.words.specs.Row.{part, put}
 use Rattle.rows.specs.Clear.{cleared, Clear}
 use Rattle.rows.proofs.Reading.{Known, in-range}
-use Rattle.program.specs.System.{unfoldOnce, unfolded}
+use Rattle.program.specs.System.{unfoldOnce, rowsAfter}
 use Rattle.tables.specs.Areas.{filled}
 use Rattle.tables.specs.Begun.{begun}
 use Rattle.tables.proofs.Encoding.{drop-begun, used}
@@ -31,23 +31,23 @@ rows-past w rows old to m e = ap (drop (m * w)) e ∙ drop-begun (m * w) (packed
 
 -- an area with its first m rows folded d times
 abbrev pub foldedRows : ℕ → ℕ → ℕ → List ℕ → List ℕ
-foldedRows w d m all = begun (packed w m (unfolded d m (rowIn w all))) all
+foldedRows w d m all = begun (packed w m (rowsAfter d m (rowIn w all))) all
 
 -- not folded yet
 pub folds-none : (w m : ℕ) (all : List ℕ) → Known all → m * w ≤ length all → all ≡ foldedRows w 0 m all
-unfolding unfolded
+unfolding rowsAfter
 folds-none w m all p l = sym (begun-rows w m all (in-range all p) l)
 
 -- of the n rows, those at and past the count m are empty, and no row has a bit there
 module _ (w n m : ℕ) (all : List ℕ) (l : m ≤ n) (b : n ≤ w * wordBits) (h : formedRows w n m all ≡ true) where
   -- the rows after d folds
   abbrev after : ℕ → ℕ → Set
-  after d = unfolded d m (rowIn w all)
+  after d = rowsAfter d m (rowIn w all)
 
   -- one fold over all n rows of an area that begins with them is one fold more
   once : (d : ℕ) (old : List ℕ) (i a : ℕ) → i < m → a < w * wordBits
       → unfoldOnce n (rowIn w (begun (packed w m (after d)) old)) i a ≡ after (suc d) i a
-  unfolding unfolded
+  unfolding rowsAfter
   once d old i a li la =
       let new : ℕ → Set = rowIn w (begun (packed w m (after d)) old) in
       let same : (i a : ℕ) → i < m → a < w * wordBits → new i a ≡ after d i a = row-begun w m (after d) old in

@@ -18,5 +18,5 @@ unfoldable pub severalNames : List ℕ → ℕ → Set
 severalNames heads m a = leb 2 (count m (λ j. eqb (getD heads j 0) a))
 
 -- a row over names with name a in it
-abbrev pub joined : ℕ → List ℕ → List ℕ
-joined a area = put 0 (pack bodyWords (union (row (part 0 bodyWords area)) (only a))) area
+abbrev pub withName : ℕ → List ℕ → List ℕ
+withName a area = put 0 (pack bodyWords (union (row (part 0 bodyWords area)) (only a))) area

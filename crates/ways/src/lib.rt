@@ -7,7 +7,7 @@ ghost use Rattle.limits.specs.Book.{names, rules, bodyWords, bodyArea};
 ghost use Rattle.sets.specs.Set.{pick, count};
 ghost use Rattle.words.specs.Row.{row, part, pack};
 ghost use Rattle.systems.specs.Standardise.{formedEntry, formedTables};
-ghost use Rattle.ways.specs.Ways.{joined, severalNames};
+ghost use Rattle.ways.specs.Ways.{withName, severalNames};
 
 // Whether rule entry j is in order: its head and its body's bits are below n; at or past the rule count it is zero.
 fn entry(heads: &[u16], bodies: &[u64], n: usize, m: usize, j: usize) -> bool
@@ -48,8 +48,10 @@ pub fn formed(heads: &[u16], bodies: &[u64], n: usize, m: usize) -> bool
 // Notes name a: it joins the row `twice` where it is in the row `once`, else that row.
 fn note(once: &mut [u64], twice: &mut [u64], a: usize)
     requires { ⌜ (bodyWords ≤ length (now once)) × (bodyWords ≤ length (now twice)) × (a < names) ⌝ }
-    ensures once { λ r. ⌜ now (once .exit) ≡ pick (row (part 0 bodyWords (now (once .entry))) a) (now (once .entry)) (joined a (now (once .entry))) ⌝ }
-    ensures twice { λ r. ⌜ now (twice .exit) ≡ pick (row (part 0 bodyWords (now (once .entry))) a) (joined a (now (twice .entry))) (now (twice .entry)) ⌝ }
+    ensures once { λ r. ⌜ now (once .exit)
+        ≡ pick (row (part 0 bodyWords (now (once .entry))) a) (now (once .entry)) (withName a (now (once .entry))) ⌝ }
+    ensures twice { λ r. ⌜ now (twice .exit)
+        ≡ pick (row (part 0 bodyWords (now (once .entry))) a) (withName a (now (twice .entry))) (now (twice .entry)) ⌝ }
 {
     if rows::read::member(once, 0, Book::BODY_WORDS, a) {
         rows::write::insert(twice, 0, Book::BODY_WORDS, a);
@@ -75,7 +77,8 @@ pub fn several(heads: &[u16], m: usize) -> [u64; Book::BODY_WORDS]
 
 // How many of the first m rules have a head in that row.
 pub fn helpers(heads: &[u16], m: usize, several: &[u64]) -> usize
-    requires { ⌜ (m ≤ rules) × (rules ≤ length (now heads)) × (bodyWords ≤ length (now several)) × ((j : ℕ) → j < m → getD (now heads) j 0 < names) ⌝ }
+    requires { ⌜ (m ≤ rules) × (rules ≤ length (now heads)) × (bodyWords ≤ length (now several))
+        × ((j : ℕ) → j < m → getD (now heads) j 0 < names) ⌝ }
     ensures { λ r. ⌜ r ≡ count m (λ j. row (part 0 bodyWords (now (several .entry))) (getD (now (heads .entry)) j 0)) ⌝ }
 {
     let mut found = 0;

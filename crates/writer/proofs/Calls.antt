@@ -19,34 +19,34 @@ use Rattle.tables.specs.Writing.{written, wellFormed, placed, writeCall}
 use Rattle.tables.proofs.Encoding.{length-begun, begun-filled}
 use Rattle.tablecheck.proofs.Meeting.{rules-only}
 use Rattle.tablecheck.proofs.Formed.{few}
-use Rattle.writer.specs.Short.{tooShort}
+use Rattle.writer.specs.Short.{shortWrite}
 
 -- areas of s, h, b and t entries: each that is too short settles it
 module _ (s h b t : ℕ) where
   -- the name area
-  pub lack-names : s < nameArea → true ≡ tooShort s h b t
-  unfolding tooShort
+  pub lack-names : s < nameArea → true ≡ shortWrite s h b t
+  unfolding shortWrite
   lack-names l = sym (or-left (ltb t textBytes) (or-left (ltb h rules || ltb b bodyArea) (lt-ltb s nameArea l)))
 
   -- the heads
-  pub lack-heads : h < rules → true ≡ tooShort s h b t
-  unfolding tooShort
+  pub lack-heads : h < rules → true ≡ shortWrite s h b t
+  unfolding shortWrite
   lack-heads l = sym (or-left (ltb t textBytes) (or-right (ltb s nameArea) (or-left (ltb b bodyArea) (lt-ltb h rules l))))
 
   -- the bodies
-  pub lack-bodies : b < bodyArea → true ≡ tooShort s h b t
-  unfolding tooShort
+  pub lack-bodies : b < bodyArea → true ≡ shortWrite s h b t
+  unfolding shortWrite
   lack-bodies l = sym (or-left (ltb t textBytes) (or-right (ltb s nameArea) (or-right (ltb h rules) (lt-ltb b bodyArea l))))
 
   -- else the text area decides
-  pub lack-text : nameArea ≤ s → rules ≤ h → bodyArea ≤ b → ltb t textBytes ≡ tooShort s h b t
-  unfolding tooShort
+  pub lack-text : nameArea ≤ s → rules ≤ h → bodyArea ≤ b → ltb t textBytes ≡ shortWrite s h b t
+  unfolding shortWrite
   lack-text p q r = sym (rw (le-ltb s nameArea p, le-ltb h rules q, le-ltb b bodyArea r))
 
 -- areas that are not too short: each is long enough, r being the test of them all
-pub long-enough : (s h b t : ℕ) (r : Bool) → r ≡ tooShort s h b t → r ≡ false
+pub long-enough : (s h b t : ℕ) (r : Bool) → r ≡ shortWrite s h b t → r ≡ false
     → (nameArea ≤ s) × (rules ≤ h) × (bodyArea ≤ b) × (textBytes ≤ t)
-unfolding tooShort
+unfolding shortWrite
 long-enough s h b t r e f =
     let p = or-none (ltb s nameArea || (ltb h rules || ltb b bodyArea)) (ltb t textBytes) (sym e ∙ f) in
     let q = or-none (ltb s nameArea) (ltb h rules || ltb b bodyArea) (p .0) in
@@ -63,26 +63,26 @@ limits fold o n m ok e f = few fold o n m (sym e ∙ not-false ok f)
 
 -- `low` is whether an area is too short, `ok` whether the tables are in order
 module _ (fold : ℕ → ℕ) (o : Areas) (n m : ℕ) (area : Bytes) (low : Bool)
-    (e : low ≡ tooShort (length (o .spellings)) (length (o .heads)) (length (o .bodies)) (length area)) where
+    (e : low ≡ shortWrite (length (o .spellings)) (length (o .heads)) (length (o .bodies)) (length area)) where
   -- the text of the tables
   abbrev book : Bytes
   book = written (namesIn (o .spellings) n) (rulesIn (rulesOnly (o .heads) (o .bodies)) m)
 
   -- an area too short: 1
   pub call-short : low ≡ true → record { number = 1; size = 0; text = area } ≡ writeCall fold o n m area
-  unfolding writeCall short tooShort
+  unfolding writeCall short shortWrite
   call-short f = sym (pick-true _ _ (sym e ∙ f))
 
   module _ (f : low ≡ false) (ok : Bool) (g : ok ≡ wellFormed fold o n m) where
     -- ill formed tables: 10
     pub call-bad : not ok ≡ true → record { number = 10; size = 0; text = area } ≡ writeCall fold o n m area
-    unfolding writeCall short tooShort
+    unfolding writeCall short shortWrite
     call-bad h = sym (pick-false _ _ (sym e ∙ f) ∙ pick-false _ _ (sym g ∙ not-true ok h))
 
     module _ (h : not ok ≡ false) (size : ℕ) (q : size ≡ length book) where
       -- tables in order: their text is placed
       formed : placed book area ≡ writeCall fold o n m area
-      unfolding writeCall short tooShort
+      unfolding writeCall short shortWrite
       formed =
           ap (λ (rs : List (Rule ℕ)). placed (written (namesIn (o .spellings) n) rs) area) (rules-only o m 0)
           ∙ sym (pick-false _ _ (sym e ∙ f) ∙ pick-true _ _ (sym g ∙ not-false ok h))

@@ -13,13 +13,13 @@ use Rattle.grammar.specs.Grammar.{mark, joined}
 use Rattle.tables.specs.Areas.{Areas, nameAt, namesIn, ruleAt, rulesIn, rulesOnly}
 use Rattle.tables.specs.Writing.{ruleText, written}
 use Rattle.tables.proofs.Encoding.{name-fits}
-use Rattle.writer.specs.Spelt.{spelt, restOf}
+use Rattle.writer.specs.Spelt.{nameSpelt, restOf}
 use Rattle.writer.proofs.Lines.{spelt-yes, spelt-no, after, after-start, after-on, after-end, bodyText, line, body-bare, body-full}
 use Rattle.writer.proofs.Lines.{linesFrom, lines-start, written-is, lines-on, lines-end}
 
 -- a name's length from its first place and its last
 pub name-long : (area : Bytes) (n a from end : ℕ) → from ≡ a * nameBytes → end ≡ a * nameBytes + length (nameAt area a) → a < n
-    → end - from ≡ length (spelt area n a)
+    → end - from ≡ length (nameSpelt area n a)
 name-long area n a from end e f l = omega (arith, ap length (spelt-yes area n a l))
 
 -- it is no longer than its row
@@ -28,7 +28,7 @@ pub name-short : (area : Bytes) (a from end : ℕ) → from ≡ a * nameBytes �
 name-short area a from end e f = omega (arith, name-fits area a)
 
 -- no name has no length
-pub none-long : (area : Bytes) (n a : ℕ) → n ≤ a → 0 ≡ length (spelt area n a)
+pub none-long : (area : Bytes) (n a : ℕ) → n ≤ a → 0 ≡ length (nameSpelt area n a)
 none-long area n a l = sym (ap length (spelt-no area n a l))
 
 -- a body from stop to stop, t bytes in all
@@ -39,11 +39,11 @@ module _ (area : Bytes) (n : ℕ) (bodies : List ℕ) (at : ℕ) where
   rest-start from a l e = omega (arith, ap length (after-start area n bodies at from a l e))
 
   -- a name and the space before it
-  pub rest-on : (t len a k r : ℕ) → len + length (after area n bodies at a) ≡ t → a < names → k ≡ length (spelt area n a)
+  pub rest-on : (t len a k r : ℕ) → len + length (after area n bodies at a) ≡ t → a < names → k ≡ length (nameSpelt area n a)
       → r ≡ next (names - (a + 1)) (row (part at bodyWords bodies)) (a + 1)
       → (len + (1 + k)) + length (after area n bodies at r) ≡ t
   rest-on t len a k r i l q e =
-      omega (arith, ap length (after-on area n bodies at a r l e), length-append (spelt area n a) (after area n bodies at r))
+      omega (arith, ap length (after-on area n bodies at a r l e), length-append (nameSpelt area n a) (after area n bodies at r))
 
   -- at the end
   pub rest-end : (t len a : ℕ) → len + length (after area n bodies at a) ≡ t → names ≤ a → len ≡ t
@@ -51,27 +51,27 @@ module _ (area : Bytes) (n : ℕ) (bodies : List ℕ) (at : ℕ) where
 
 -- rule j, its body's row at `at` and the first stop at a, h the length of its head
 module _ (area : Bytes) (n : ℕ) (heads bodies : List ℕ) (j at a h : ℕ)
-    (p : at ≡ j * bodyWords) (e : a ≡ next names (row (part at bodyWords bodies)) 0) (q : h ≡ length (spelt area n (getD heads j 0))) where
+    (p : at ≡ j * bodyWords) (e : a ≡ next names (row (part at bodyWords bodies)) 0) (q : h ≡ length (nameSpelt area n (getD heads j 0))) where
   -- an empty body
   pub rule-bare : names ≤ a → h + 1 ≡ length (ruleText (namesIn area n) (ruleAt (rulesOnly heads bodies) j))
   rule-bare l =
       omega (
         arith,
         ap length (line area n heads bodies j),
-        length-append (spelt area n (getD heads j 0)) (colon ∷ bodyText area n bodies j),
+        length-append (nameSpelt area n (getD heads j 0)) (colon ∷ bodyText area n bodies j),
         ap length (body-bare area n bodies j at a p e l),
       )
 
   -- a first name and the rest
-  pub rule-full : (k r : ℕ) → a < names → k ≡ length (spelt area n a) → r ≡ length (restOf area n bodies at (a + 1))
+  pub rule-full : (k r : ℕ) → a < names → k ≡ length (nameSpelt area n a) → r ≡ length (restOf area n bodies at (a + 1))
       → ((h + 1) + k) + r ≡ length (ruleText (namesIn area n) (ruleAt (rulesOnly heads bodies) j))
   rule-full k r l u v =
       omega (
         arith,
         ap length (line area n heads bodies j),
-        length-append (spelt area n (getD heads j 0)) (colon ∷ bodyText area n bodies j),
+        length-append (nameSpelt area n (getD heads j 0)) (colon ∷ bodyText area n bodies j),
         ap length (body-full area n bodies j at a p e l),
-        length-append (spelt area n a) (restOf area n bodies at (a + 1)),
+        length-append (nameSpelt area n a) (restOf area n bodies at (a + 1)),
       )
 
 -- rule after rule, t bytes in all

@@ -15,7 +15,7 @@ use Rattle.tables.specs.Areas.{Areas, nameAt, namesIn, ruleAt, rulesIn, rulesOn
 use Rattle.tables.specs.Begun.{begun}
 use Rattle.tables.specs.Writing.{ruleText, written}
 use Rattle.tables.proofs.Encoding.{name-fits}
-use Rattle.writer.specs.Spelt.{spelt, restOf}
+use Rattle.writer.specs.Spelt.{nameSpelt, restOf}
 use Rattle.writer.proofs.Lines.{spelt-no, spelt-part, after, after-start, after-on, after-end, bodyText, line, body-bare, body-full}
 use Rattle.writer.proofs.Lines.{linesFrom, lines-start, written-is, lines-on, lines-end}
 use Rattle.copying.proofs.Putting.{Left, put-none, put-put, left-start, left-length, left-room, left-on, left-byte, left-as, left-none, left-end}
@@ -27,19 +27,19 @@ module _ (area : Bytes) (n a from end : ℕ) (e : from ≡ a * nameBytes) (f : e
   name-inside h g = omega (arith, name-fits area a)
 
   -- there is room for that part
-  pub name-room : (at size : ℕ) → at + length (spelt area n a) ≤ size → at + length (part from (end - from) area) ≤ size
+  pub name-room : (at size : ℕ) → at + length (nameSpelt area n a) ≤ size → at + length (part from (end - from) area) ≤ size
   name-room at size r = omega (arith, ap length (spelt-part area n a from end e f l))
 
   -- which is copied
-  pub name-put : (at : ℕ) (old new : Bytes) → new ≡ put at (part from (end - from) area) old → new ≡ put at (spelt area n a) old
+  pub name-put : (at : ℕ) (old new : Bytes) → new ≡ put at (part from (end - from) area) old → new ≡ put at (nameSpelt area n a) old
   name-put at old new q = q ∙ ap (λ (w : Bytes). put at w old) (spelt-part area n a from end e f l)
 
   -- up to the place past it
-  pub name-next : (at k : ℕ) → k ≡ at + length (part from (end - from) area) → k ≡ at + length (spelt area n a)
+  pub name-next : (at k : ℕ) → k ≡ at + length (part from (end - from) area) → k ≡ at + length (nameSpelt area n a)
   name-next at k q = omega (arith, ap length (spelt-part area n a from end e f l))
 
 -- no name changes nothing
-pub none-put : (area : Bytes) (n a at : ℕ) (old : Bytes) → n ≤ a → old ≡ put at (spelt area n a) old
+pub none-put : (area : Bytes) (n a at : ℕ) (old : Bytes) → n ≤ a → old ≡ put at (nameSpelt area n a) old
 none-put area n a at old l = sym (ap (λ (w : Bytes). put at w old) (spelt-no area n a l) ∙ put-none at old)
 
 -- a body's names from number `from` on
@@ -67,7 +67,7 @@ module _ (area : Bytes) (n : ℕ) (bodies : List ℕ) (row′ from : ℕ) (old :
       stop = next (names - (a + 1)) (row (part row′ bodyWords bodies)) (a + 1)
 
       -- the space is put
-      spaced-out : Left old at (restOf area n bodies row′ from) (spelt area n a ++ after area n bodies row′ stop) (set text o space) (o + 1)
+      spaced-out : Left old at (restOf area n bodies row′ from) (nameSpelt area n a ++ after area n bodies row′ stop) (set text o space) (o + 1)
       unfolding stop
       spaced-out = left-byte old at _ fits _ text o s space _ (after-on area n bodies row′ a stop l refl)
 
@@ -78,21 +78,21 @@ module _ (area : Bytes) (n : ℕ) (bodies : List ℕ) (row′ from : ℕ) (old :
           omega (arith, left-room old at _ fits _ text o s, ap length (after-on area n bodies row′ a stop l refl))
 
       -- and after it for the name
-      pub rest-room : (o + 1) + length (spelt area n a) ≤ length (set text o space)
+      pub rest-room : (o + 1) + length (nameSpelt area n a) ≤ length (set text o space)
       rest-room =
           omega (
             arith,
             left-room old at _ fits _ (set text o space) (o + 1) spaced-out,
-            length-append (spelt area n a) (after area n bodies row′ stop),
+            length-append (nameSpelt area n a) (after area n bodies row′ stop),
           )
 
       -- both are put
       pub rest-on : (new : Bytes) (k r : ℕ) → r ≡ next (names - (a + 1)) (row (part row′ bodyWords bodies)) (a + 1)
-          → new ≡ put (o + 1) (spelt area n a) (set text o space) → k ≡ (o + 1) + length (spelt area n a) → Rest r new k
+          → new ≡ put (o + 1) (nameSpelt area n a) (set text o space) → k ≡ (o + 1) + length (nameSpelt area n a) → Rest r new k
       unfolding stop
       rest-on new k r e f g =
-          left-on old at _ fits _ (set text o space) (o + 1) spaced-out (spelt area n a) (after area n bodies row′ r) new k
-          (ap (λ (b : ℕ). spelt area n a ++ after area n bodies row′ b) (sym e)) f g
+          left-on old at _ fits _ (set text o space) (o + 1) spaced-out (nameSpelt area n a) (after area n bodies row′ r) new k
+          (ap (λ (b : ℕ). nameSpelt area n a ++ after area n bodies row′ b) (sym e)) f g
 
 -- rule j
 module _ (area : Bytes) (n : ℕ) (heads bodies : List ℕ) (j : ℕ) (old : Bytes) (at : ℕ)
@@ -101,16 +101,16 @@ module _ (area : Bytes) (n : ℕ) (heads bodies : List ℕ) (j : ℕ) (old : Byt
   whole = ruleText (namesIn area n) (ruleAt (rulesOnly heads bodies) j)
 
   -- there is room for the head
-  pub head-room : at + length (spelt area n (getD heads j 0)) ≤ length old
+  pub head-room : at + length (nameSpelt area n (getD heads j 0)) ≤ length old
   head-room =
-      omega (arith, ap length (line area n heads bodies j), length-append (spelt area n (getD heads j 0)) (colon ∷ bodyText area n bodies j))
+      omega (arith, ap length (line area n heads bodies j), length-append (nameSpelt area n (getD heads j 0)) (colon ∷ bodyText area n bodies j))
 
   -- the head is put, up to k
-  module _ (text : Bytes) (k : ℕ) (f : text ≡ put at (spelt area n (getD heads j 0)) old) (g : k ≡ at + length (spelt area n (getD heads j 0))) where
+  module _ (text : Bytes) (k : ℕ) (f : text ≡ put at (nameSpelt area n (getD heads j 0)) old) (g : k ≡ at + length (nameSpelt area n (getD heads j 0))) where
     -- what is left is the colon and the body
     headed : Left old at whole (colon ∷ bodyText area n bodies j) text k
     headed =
-        left-on old at whole fits whole old at (left-start old at whole fits) (spelt area n (getD heads j 0)) (colon ∷ bodyText area n bodies j) text k
+        left-on old at whole fits whole old at (left-start old at whole fits) (nameSpelt area n (getD heads j 0)) (colon ∷ bodyText area n bodies j) text k
         (line area n heads bodies j) f g
 
     -- there is room for the colon
@@ -133,21 +133,21 @@ module _ (area : Bytes) (n : ℕ) (heads bodies : List ℕ) (j : ℕ) (old : Byt
 
       module _ (l : a < names) where
         -- there is room for the first name
-        pub first-room : (k + 1) + length (spelt area n a) ≤ length (set text k colon)
+        pub first-room : (k + 1) + length (nameSpelt area n a) ≤ length (set text k colon)
         first-room =
             omega (
               arith,
               left-room old at whole fits _ (set text k colon) (k + 1) parted,
               ap length (body-full area n bodies j b a p e l),
-              length-append (spelt area n a) (restOf area n bodies b (a + 1)),
+              length-append (nameSpelt area n a) (restOf area n bodies b (a + 1)),
             )
 
         -- it is put, up to c
-        module _ (more : Bytes) (c : ℕ) (q : more ≡ put (k + 1) (spelt area n a) (set text k colon)) (r : c ≡ (k + 1) + length (spelt area n a)) where
+        module _ (more : Bytes) (c : ℕ) (q : more ≡ put (k + 1) (nameSpelt area n a) (set text k colon)) (r : c ≡ (k + 1) + length (nameSpelt area n a)) where
           -- what is left is the rest
           named : Left old at whole (restOf area n bodies b (a + 1)) more c
           named =
-              left-on old at whole fits _ (set text k colon) (k + 1) parted (spelt area n a) (restOf area n bodies b (a + 1)) more c
+              left-on old at whole fits _ (set text k colon) (k + 1) parted (nameSpelt area n a) (restOf area n bodies b (a + 1)) more c
               (body-full area n bodies j b a p e l) q r
 
           -- there is room for it

@@ -6,5 +6,5 @@ use lib.Dec.{ltb}
 use Rattle.limits.specs.Book.{textBytes, nameArea, rules, bodyArea}
 
 -- the name area, the heads, the bodies or the text area
-unfoldable pub tooShort : ℕ → ℕ → ℕ → ℕ → Bool
-tooShort s h b t = (ltb s nameArea || (ltb h rules || ltb b bodyArea)) || ltb t textBytes
+unfoldable pub shortWrite : ℕ → ℕ → ℕ → ℕ → Bool
+shortWrite s h b t = (ltb s nameArea || (ltb h rules || ltb b bodyArea)) || ltb t textBytes

@@ -12,24 +12,24 @@ use Rattle.tables.specs.Areas.{namesIn, ruleAt, rulesIn, rulesOnly}
 use Rattle.tables.specs.Writing.{spacedOn, ruleText, written}
 
 -- name a of the first n, nothing where a is not below n
-unfoldable pub spelt : Bytes → ℕ → ℕ → Bytes
-spelt area n a = getD (namesIn area n) a []
+unfoldable pub nameSpelt : Bytes → ℕ → ℕ → Bytes
+nameSpelt area n a = getD (namesIn area n) a []
 
 -- the names of the body at place `at` from number a on, each after a space
 unfoldable pub restOf : Bytes → ℕ → List ℕ → ℕ → ℕ → Bytes
-restOf area n bodies at a = spacedOn (map (spelt area n) (members (names - a) (row (part at bodyWords bodies)) a))
+restOf area n bodies at a = spacedOn (map (nameSpelt area n) (members (names - a) (row (part at bodyWords bodies)) a))
 
 -- rule j of heads and bodies as its line has it
 abbrev pub lineOf : Bytes → List ℕ → List ℕ → ℕ → ℕ → Bytes
 lineOf area heads bodies n j = ruleText (namesIn area n) (ruleAt (rulesOnly heads bodies) j)
 
 -- the lines of the first m rules, each with its end
-abbrev pub linesOf : Bytes → List ℕ → List ℕ → ℕ → ℕ → Bytes
-linesOf area heads bodies n m = joined (map (ruleText (namesIn area n)) (rulesIn (rulesOnly heads bodies) m))
+abbrev pub ruleLines : Bytes → List ℕ → List ℕ → ℕ → ℕ → Bytes
+ruleLines area heads bodies n m = joined (map (ruleText (namesIn area n)) (rulesIn (rulesOnly heads bodies) m))
 
 -- the whole text
-abbrev pub textOf : Bytes → List ℕ → List ℕ → ℕ → ℕ → Bytes
-textOf area heads bodies n m = written (namesIn area n) (rulesIn (rulesOnly heads bodies) m)
+abbrev pub textIn : Bytes → List ℕ → List ℕ → ℕ → ℕ → Bytes
+textIn area heads bodies n m = written (namesIn area n) (rulesIn (rulesOnly heads bodies) m)
 
 -- no line is longer
 abbrev pub lineBytes : ℕ

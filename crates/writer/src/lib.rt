@@ -3,9 +3,9 @@ use limits::Book;
 use limits::Refusal;
 use scan::table::folding;
 ghost use mathlib.Core.Path.{_≡_};
-ghost use Rattle.grammar.specs.Bytes.{folded};
+ghost use Rattle.grammar.specs.Bytes.{ourLetters};
 ghost use Rattle.tables.specs.Writing.{writeCall};
-ghost use Rattle.writer.specs.Short.{tooShort};
+ghost use Rattle.writer.specs.Short.{shortWrite};
 
 pub mod measure;
 pub mod put;
@@ -18,7 +18,7 @@ pub struct Written {
 
 // Whether an area is shorter than its stated size.
 pub fn too_short(spellings: usize, heads: usize, bodies: usize, text: usize) -> bool
-    ensures { λ r. ⌜ r ≡ tooShort spellings heads bodies text ⌝ }
+    ensures { λ r. ⌜ r ≡ shortWrite spellings heads bodies text ⌝ }
 {
     if spellings < Book::NAME_AREA {
         return true;
@@ -42,7 +42,7 @@ pub fn write(
     text: &mut [u8],
 ) -> Written
     ensures { λ r. ⌜ record { number = r .number; size = r .size; text = now (text .exit) }
-        ≡ writeCall folded
+        ≡ writeCall ourLetters
         (record { spellings = now (spellings .entry); heads = now (heads .entry); bodies = now (bodies .entry) })
         n m (now (text .entry)) ⌝ }
 {

@@ -6,12 +6,12 @@ ghost use mathlib.Core.Path.{_≡_};
 ghost use Prim.Native.Nat.{_+_, _*_, _<_, _≤_};
 ghost use lib.ListN.{length};
 ghost use Rattle.limits.specs.Book.{names, nameBytes, nameArea, rules, bodyWords, bodyArea};
-ghost use Rattle.writer.specs.Spelt.{spelt, restOf, lineOf, textOf, lineBytes};
+ghost use Rattle.writer.specs.Spelt.{nameSpelt, restOf, lineOf, textIn, lineBytes};
 
 // The length of name a of the first n, 0 where a is not below n.
 pub fn name_len(spellings: &[u8], n: usize, a: usize) -> usize
     requires { ⌜ (n ≤ names) × (nameArea ≤ length (now spellings)) ⌝ }
-    ensures len { λ r. ⌜ r ≡ length (spelt (now (spellings .entry)) n a) ⌝ }
+    ensures len { λ r. ⌜ r ≡ length (nameSpelt (now (spellings .entry)) n a) ⌝ }
     ensures bound { λ r. ⌜ r ≤ nameBytes ⌝ }
 {
     if a < n {
@@ -55,7 +55,7 @@ pub fn rule_len(spellings: &[u8], heads: &[u16], bodies: &[u64], n: usize, j: us
 pub fn text_len(spellings: &[u8], heads: &[u16], bodies: &[u64], n: usize, m: usize) -> usize
     requires { ⌜ (n ≤ names) × (m ≤ rules)
         × (nameArea ≤ length (now spellings)) × (rules ≤ length (now heads)) × (bodyArea ≤ length (now bodies)) ⌝ }
-    ensures { λ r. ⌜ r ≡ length (textOf (now (spellings .entry)) (now (heads .entry)) (now (bodies .entry)) n m) ⌝ }
+    ensures { λ r. ⌜ r ≡ length (textIn (now (spellings .entry)) (now (heads .entry)) (now (bodies .entry)) n m) ⌝ }
 {
     let mut len = Cursor::MARK_BYTES;
     let mut j = 0;

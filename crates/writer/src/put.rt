@@ -8,13 +8,13 @@ ghost use lib.ListN.{length};
 ghost use Rattle.limits.specs.Book.{names, nameArea, rules, bodyWords, bodyArea};
 ghost use Rattle.words.specs.Row.{put};
 ghost use Rattle.tables.specs.Begun.{begun};
-ghost use Rattle.writer.specs.Spelt.{spelt, restOf, lineOf, linesOf, textOf};
+ghost use Rattle.writer.specs.Spelt.{nameSpelt, restOf, lineOf, ruleLines, textIn};
 
 // Name a of the first n, nothing where a is not below n.
 pub fn put_name(spellings: &[u8], n: usize, a: usize, text: &mut [u8], at: usize) -> usize
-    requires { ⌜ (n ≤ names) × (nameArea ≤ length (now spellings)) × (at + length (spelt (now spellings) n a) ≤ length (now text)) ⌝ }
-    ensures next { λ r. ⌜ r ≡ at + length (spelt (now (spellings .entry)) n a) ⌝ }
-    ensures text { λ r. ⌜ now (text .exit) ≡ put at (spelt (now (spellings .entry)) n a) (now (text .entry)) ⌝ }
+    requires { ⌜ (n ≤ names) × (nameArea ≤ length (now spellings)) × (at + length (nameSpelt (now spellings) n a) ≤ length (now text)) ⌝ }
+    ensures next { λ r. ⌜ r ≡ at + length (nameSpelt (now (spellings .entry)) n a) ⌝ }
+    ensures text { λ r. ⌜ now (text .exit) ≡ put at (nameSpelt (now (spellings .entry)) n a) (now (text .entry)) ⌝ }
 {
     if a < n {
         let from = Book::name_at(a);
@@ -90,9 +90,9 @@ pub fn put_rules(
 )
     requires { ⌜ (n ≤ names) × (m ≤ rules)
         × (nameArea ≤ length (now spellings)) × (rules ≤ length (now heads)) × (bodyArea ≤ length (now bodies)) ⌝ }
-    requires { ⌜ at + length (linesOf (now spellings) (now heads) (now bodies) n m) ≤ length (now text) ⌝ }
+    requires { ⌜ at + length (ruleLines (now spellings) (now heads) (now bodies) n m) ≤ length (now text) ⌝ }
     ensures { λ r. ⌜ now (text .exit)
-        ≡ put at (linesOf (now (spellings .entry)) (now (heads .entry)) (now (bodies .entry)) n m) (now (text .entry)) ⌝ }
+        ≡ put at (ruleLines (now (spellings .entry)) (now (heads .entry)) (now (bodies .entry)) n m) (now (text .entry)) ⌝ }
 {
     let mut o = at;
     let mut j = 0;
@@ -115,9 +115,9 @@ pub fn put_text(
 )
     requires { ⌜ (n ≤ names) × (m ≤ rules)
         × (nameArea ≤ length (now spellings)) × (rules ≤ length (now heads)) × (bodyArea ≤ length (now bodies)) ⌝ }
-    requires { ⌜ length (textOf (now spellings) (now heads) (now bodies) n m) ≤ length (now text) ⌝ }
+    requires { ⌜ length (textIn (now spellings) (now heads) (now bodies) n m) ≤ length (now text) ⌝ }
     ensures { λ r. ⌜ now (text .exit)
-        ≡ begun (textOf (now (spellings .entry)) (now (heads .entry)) (now (bodies .entry)) n m) (now (text .entry)) ⌝ }
+        ≡ begun (textIn (now (spellings .entry)) (now (heads .entry)) (now (bodies .entry)) n m) (now (text .entry)) ⌝ }
 {
     let mark = Cursor::MARK;
     let at = copying::copy(&mark, text, 0);

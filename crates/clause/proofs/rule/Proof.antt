@@ -11,7 +11,7 @@ use Rattle.words.proofs.Rows.{length-pack}
 use Rattle.grammar.specs.Bytes.{letters}
 use Rattle.scan.specs.declared.cursor.Cursor.{Cursor}
 use Rattle.clause.specs.declared.Found.{Found}
-use Rattle.clause.specs.Line.{Closed}
+use Rattle.clause.specs.Line.{LineEnds}
 use Rattle.clause.specs.Found.{lexiconOf, Bodied, Said}
 use Rattle.clause.proofs.Forms.{past-word, headless, uncoloned, colon-in, closed-body}
 use Rattle.clause.proofs.Rows.{row-clear}
@@ -78,7 +78,7 @@ body-requires c κs = let s = c .before .before .before .before .before .before 
     let x = lexiconOf (a .n) (a .spellings .now) (a .first .now) (a .prior .now) in
     let y = lexiconOf (m .result .names) (m .last .1 .1 .1 .1 .0) (m .last .1 .1 .1 .1 .1 .0) (m .last .1 .1 .1 .1 .1 .1 .0) in (
       (
-        subst (λ (k : Cursor). Closed (a .text .now) (k .at)) (sym (c .before .before .before .before .moved2 .ensures))
+        subst (λ (k : Cursor). LineEnds (a .text .now) (k .at)) (sym (c .before .before .before .before .moved2 .ensures))
             (closed-body _ (s .pre .1 .0 .0 .1) (a .text .now) (a .cursor .at) (s .pre .0 .0) (s .pre .0 .1) _
             (past-word _ (a .text .now) (a .cursor .at) _ _ (ap (λ (k : Cursor). k .at) (c .before .before .before .before .before .before .before .before .before .before .before .before .before .before .before .before .before .before .before .moved .ensures) ∙ c .before .before .before .before .before .before .before .before .before .before .before .before .before .before .before .before .before .before .before .before .before .before .word .ensures .0)
             (ap (λ (k : Cursor). k .at) (c .before .before .before .before .before .before .before .before .before .before .before .before .before .before .before .before .before .before .past-blanks .ensures)))

@@ -1,5 +1,5 @@
 -- `dpl::print` is safe: what is printed lies in the area. Assumes the contract of `libc::write`, by which `io` prints.
-use Rattle.grammar.specs.Bytes.{folded}
+use Rattle.grammar.specs.Bytes.{ourLetters}
 use Rattle.hosting.proofs.Printing.{print-within}
 use borrow.Author.Needs.{needs}
 use Rattle.dpl.proofs.Counted.{counted}
@@ -11,8 +11,8 @@ print-spec =
     tie.close
     (tie.spec
     (λ c κs. search needs)
-    (λ c. print-within folded _ _ _ (c .print .ensures))
-    (λ c. counted _ _ (print-within folded _ _ _ (c .before .print .ensures)))
+    (λ c. print-within ourLetters _ _ _ (c .print .ensures))
+    (λ c. counted _ _ (print-within ourLetters _ _ _ (c .before .print .ensures)))
     (λ c κs. search needs)
     (λ c. search needs)
     (λ c κs. search needs)

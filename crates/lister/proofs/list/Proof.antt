@@ -1,7 +1,7 @@
 -- `lister::list` meets its contract: what is seen of the solver's outcome. Assumes nothing.
 use Rattle.limits.specs.Book.{rowArea}
 use Rattle.rows.proofs.Zeros.{zeros-clear}
-use Rattle.grammar.specs.Bytes.{folded}
+use Rattle.grammar.specs.Bytes.{ourLetters}
 use Rattle.hosting.proofs.Calls.{list-seen}
 use borrow.Author.Needs.{needs}
 use Rattle.lister.proofs.list.Statement.{statement}
@@ -13,7 +13,7 @@ solve-in-requires c κs = λ t. (zeros-clear rowArea, zeros-clear rowArea, zeros
 returns : tie.Need-returns
 returns c =
     let s = c .before .before .before .before .before .before .before .before .before .solve-in in
-    (list-seen folded _ _ _ _ (s .ensures .0), s .ensures .1)
+    (list-seen ourLetters _ _ _ _ (s .ensures .0), s .ensures .1)
 
 pub list-spec : {M : Type 1} → statement M
 list-spec =

@@ -1,13 +1,13 @@
 -- `writer::write` meets its contract. One law for each outcome. Assumes nothing.
 use native.Mathlib.Omega.{arith}
-use Rattle.grammar.specs.Bytes.{folded}
+use Rattle.grammar.specs.Bytes.{ourLetters}
 use Rattle.writer.proofs.Calls.{by-ours, long-enough, limits, text-fits, call-short, call-bad, call-long, call-done}
 use borrow.Author.Needs.{needs}
 use Rattle.writer.proofs.write.Statement.{statement}
 use Rattle.writer.proofs.write.Tie as tie
 
 returns : tie.Need-returns
-returns c = call-short folded _ _ _ _ _ (c .before .too-short .ensures) (c .if1 .taken)
+returns c = call-short ourLetters _ _ _ _ _ (c .before .too-short .ensures) (c .if1 .taken)
 
 well-formed-requires : tie.Need-well-formed-requires
 well-formed-requires c κs =
@@ -20,8 +20,8 @@ returns-2 : tie.Need-returns-2
 returns-2 c =
     let f = c .before .before .before in
     let e = f .before in
-    let g = by-ours _ folded _ _ _ _ (f .folding .ensures .1) (c .before .well-formed .ensures) in
-    call-bad folded _ _ _ _ _ (e .before .too-short .ensures) (e .if1 .left) _ g (c .if2 .taken)
+    let g = by-ours _ ourLetters _ _ _ _ (f .folding .ensures .1) (c .before .well-formed .ensures) in
+    call-bad ourLetters _ _ _ _ _ (e .before .too-short .ensures) (e .if1 .left) _ g (c .if2 .taken)
 
 text-len-requires : tie.Need-text-len-requires
 text-len-requires c κs =
@@ -35,8 +35,8 @@ returns-3 c =
     let w = c .before .before in
     let f = w .before .before .before in
     let e = f .before in
-    let g = by-ours _ folded _ _ _ _ (f .folding .ensures .1) (w .before .well-formed .ensures) in
-    call-long folded _ _ _ _ _ (e .before .too-short .ensures) (e .if1 .left) _ g (w .if2 .left) _ (c .before .text-len .ensures) (c .if3 .taken)
+    let g = by-ours _ ourLetters _ _ _ _ (f .folding .ensures .1) (w .before .well-formed .ensures) in
+    call-long ourLetters _ _ _ _ _ (e .before .too-short .ensures) (e .if1 .left) _ g (w .if2 .left) _ (c .before .text-len .ensures) (c .if3 .taken)
 
 put-text-requires : tie.Need-put-text-requires
 put-text-requires c κs =
@@ -60,8 +60,8 @@ returns-4 c =
     let w = t .before .before in
     let f = w .before .before .before in
     let e = f .before in
-    let g = by-ours _ folded _ _ _ _ (f .folding .ensures .1) (w .before .well-formed .ensures) in
-    call-done folded _ _ _ _ _ (e .before .too-short .ensures) (e .if1 .left) _ g (w .if2 .left) _
+    let g = by-ours _ ourLetters _ _ _ _ (f .folding .ensures .1) (w .before .well-formed .ensures) in
+    call-done ourLetters _ _ _ _ _ (e .before .too-short .ensures) (e .if1 .left) _ g (w .if2 .left) _
     (t .before .text-len .ensures) _ _ (t .if3 .left) (p .put-text .ensures) (c .before .before .clear-tail8 .ensures)
 
 pub write-spec : {M : Type 1} → statement M
