@@ -7,14 +7,14 @@ use Prim.Native.Nat.{ℕ, _≤_, _<_}
 use native.Mathlib.Omega.{arith}
 use lib.Dec.{eqb, leb}
 use lib.ListN.{length}
-use borrow.Author.Tests.{leb-false, le-leb, lt-leb}
+use borrow.Author.Tests.{leb-true, leb-false, le-leb, lt-leb}
 use Rattle.limits.specs.Book.{names, bodyWords}
 use Rattle.sets.specs.Set.{Set, only, union}
 use Rattle.sets.proofs.Logic.{either, clash}
 use Rattle.words.specs.Row.{row, part, pack, put}
 use Rattle.grammar.specs.Bytes.{Bytes}
 use Rattle.tables.specs.Numbering.{place, meet, meetAll, places}
-use Rattle.tables.proofs.Numbering.{meets-le, meets-keep, meets-met, meets-append, places-same}
+use Rattle.tables.proofs.Numbering.{meet-met, meets-le, meets-keep, meets-met, meets-append, places-same}
 use Rattle.clause.specs.Found.{Kept, Lexicon, namesAt, Named, InOrder, Meeting, Joining, Onward}
 use Rattle.clause.proofs.Rows.{row-same, row-more}
 
@@ -139,6 +139,16 @@ onward-shut before ns ws x row e = record { lost = λ c. refl; joins = λ c. cla
 
 -- One name met.
 module _ (before : Bool) (w : Bytes) (room : Bool) (number : ℕ) (x x′ : Lexicon) (k : InOrder x) (met : Meeting w room number x x′) where
+  -- its number lies within a row of names
+  pub low : room ≡ true → number < names
+  low e =
+      omega (
+        arith,
+        met .number-is e,
+        meet-met (namesAt x) w,
+        leb-true (length (meet (namesAt x) w)) names (sym (met .fits) ∙ e),
+      )
+
   -- it joins the row
   pub onward-one : before ≡ true → room ≡ true → (old new : List ℕ)
       → new ≡ put 0 (pack bodyWords (union (row (part 0 bodyWords old)) (only number))) old → Onward before (namesAt x) (w ∷ []) true x′ old new

@@ -99,6 +99,46 @@ fn meet(
     }
 }
 
+// The same for a head: one that is known is found here, and only a new one goes behind the call.
+fn meet_head(
+    text: &[u8],
+    table: &[u8],
+    at: usize,
+    word: Word,
+    spellings: &mut [u8],
+    first: &mut [u16],
+    prior: &mut [u16],
+    n: usize,
+) -> Met
+    requires { ⌜ NameHere (letters (now table)) (now text) at (word .end) (word .bucket) × FoldTable (now table) ⌝ }
+    requires { ⌜ InOrder (lexiconOf n (now spellings) (now first) (now prior)) ⌝ }
+    ensures { λ r. ⌜ Meeting
+        (nameFolded (letters (now (table .entry))) (now (text .entry)) at) (r .room) (r .number)
+        (lexiconOf n (now (spellings .entry)) (now (first .entry)) (now (prior .entry)))
+        (lexiconOf (r .names) (now (spellings .exit)) (now (first .exit)) (now (prior .exit))) ⌝ }
+{
+    let len = word.end - at;
+    let known = find(
+        spellings,
+        n,
+        first,
+        prior,
+        text,
+        table,
+        at,
+        len,
+        word.bucket,
+    );
+    if known < n {
+        return Met {
+            room: true,
+            number: known,
+            names: n,
+        };
+    }
+    meet(text, table, at, word, spellings, first, prior, n)
+}
+
 // How many names there are, and whether each found room.
 struct Joined {
     pub room: bool,
@@ -134,6 +174,7 @@ fn join(
         };
     }
     // Most names of a body are known, and the search is the reader's hot path: it stands here, so that it is inlined where the body is walked.
+    // A name that is new is searched for once more behind a call: that keeps the code of entering it out of the walk.
     let len = word.end - at;
     let known = find(
         spellings,
@@ -153,27 +194,17 @@ fn join(
             names: n,
         };
     }
-    if n == Book::NAMES {
+    let met = meet(text, table, at, word, spellings, first, prior, n);
+    if !met.room {
         return Joined {
             room: false,
             names: n,
         };
     }
-    add(
-        spellings,
-        n,
-        first,
-        prior,
-        text,
-        table,
-        at,
-        len,
-        word.bucket,
-    );
-    insert(row, 0, Book::BODY_WORDS, n);
+    insert(row, 0, Book::BODY_WORDS, met.number);
     Joined {
         room: true,
-        names: n + 1,
+        names: met.names,
     }
 }
 
@@ -291,7 +322,7 @@ pub fn rule(
     if !colon.sees(text, Cursor::COLON) {
         return at_fault(colon, n);
     }
-    let met = meet(text, table, at, word, spellings, first, prior, n);
+    let met = meet_head(text, table, at, word, spellings, first, prior, n);
     body(
         text,
         table,

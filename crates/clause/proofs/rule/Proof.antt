@@ -53,8 +53,8 @@ returns-2 c = let s = c .before .before .before .before .before .before .before 
           (sym (c .before .before .sees .ensures) ∙ not-true _ (c .before .if2 .taken))),
     )
 
-meet-requires : tie.Need-meet-requires
-meet-requires c κs = let s = c .before .before .before .before .before .before .before .before .before .before .before .before .before .before .before .before in
+meet-head-requires : tie.Need-meet-head-requires
+meet-head-requires c κs = let s = c .before .before .before .before .before .before .before .before .before .before .before .before .before .before .before .before in
     let a = s .args in
     let w = c .before .before .before .before .before .before .before .before .before .word .ensures in (
       (record { good = sym (c .before .before .before .before .before .before .before .before .is-name .ensures _ (a .text .now) (w .0)) ∙ not-false _ (c .before .before .before .before .before .before .before .if1 .left); ends = w .0; hashed = w .1 }, s .pre .1 .0 .0),
@@ -74,7 +74,7 @@ add-moved c = let s = c .before .before .before .before .before .before .before 
 body-requires : tie.Need-body-requires
 body-requires c κs = let s = c .before .before .before .before .before .before .before .before .before .before .before .before .before .before .before .before .before .before .before .before .before .before .before .before .before .before .before .before .before in
     let a = s .args in
-    let m = c .before .before .before .before .before .before .before .before .before .before .before .before .meet in
+    let m = c .before .before .before .before .before .before .before .before .before .before .before .before .meet-head in
     let x = lexiconOf (a .n) (a .spellings .now) (a .first .now) (a .prior .now) in
     let y = lexiconOf (m .result .names) (m .last .1 .1 .1 .1 .0) (m .last .1 .1 .1 .1 .1 .0) (m .last .1 .1 .1 .1 .1 .1 .0) in (
       (
@@ -92,7 +92,7 @@ body-requires c κs = let s = c .before .before .before .before .before .before 
 returns-3 : tie.Need-returns-3
 returns-3 c = let s = c .before .before .before .before .before .before .before .before .before .before .before .before .before .before .before .before .before .before .before .before .before .before .before .before .before .before .before .before .before .before .before .before .before .before .before .before .before .before in
     let a = s .args in
-    let m = c .before .before .before .before .before .before .before .before .before .before .before .before .before .before .before .before .before .before .before .before .before .meet in
+    let m = c .before .before .before .before .before .before .before .before .before .before .before .before .before .before .before .before .before .before .before .before .before .meet-head in
     let b = c .before .before .before .before .before .before .before .before .body in
     let x = lexiconOf (a .n) (a .spellings .now) (a .first .now) (a .prior .now) in
     let y = lexiconOf (m .result .names) (m .last .1 .1 .1 .1 .0) (m .last .1 .1 .1 .1 .1 .0) (m .last .1 .1 .1 .1 .1 .1 .0) in
@@ -125,7 +125,7 @@ rule-spec =
     (λ c κs. search needs)
     (λ c κs. search needs)
     returns-2
-    meet-requires
+    meet-head-requires
     add-moved
     (λ c κs. search needs)
     body-requires
