@@ -13,7 +13,8 @@ use Rattle.clause.proofs.body.Statement.{statement}
 use Rattle.clause.proofs.body.Tie as tie
 
 abbrev Inv-loop : tie.InvT-loop
-Inv-loop text table spellings₀ first₀ prior₀ row₀ head n room done₀ here₀ spellings first prior row done here = Passed (letters table) text (here₀ .at) (here .at) room (lexiconOf n spellings₀ first₀ prior₀) (done .room)
+Inv-loop text table spellings₀ first₀ prior₀ row₀ head n room done₀ here₀ spellings first prior row done here = Passed (letters table) text
+    (here₀ .at) (here .at) room (lexiconOf n spellings₀ first₀ prior₀) (done .room)
     (lexiconOf (done .names) spellings first prior) row₀ row
     × (length first ≡ length first₀) × (length prior ≡ length prior₀) × (length row ≡ length row₀) × (here .line ≡ here₀ .line)
 
@@ -33,27 +34,39 @@ loop-holds c = let s = c .before .before .before .before .before .before .before
     )
 
 returns : tie.Need-returns Inv-loop μ-loop
-returns c = let s = c .before .before .before .before .before .before .before .before .before .before .before .before .before in
+returns c =
+    let at-is-name = c .before in
+    let at-word = at-is-name .before in
+    let at-if1 = at-word .before in
+    let at-sees = at-if1 .before in
+    let at-loop = at-sees .before in
+    let at-past-blanks = at-loop .before in
+    let s = at-past-blanks .before .before .before .before .before .before .before in
     let a = s .args in
-    let l = c .before .before .before .before .before .loop in
+    let l = at-loop .loop in
     let x = lexiconOf (a .n) (a .spellings .now) (a .first .now) (a .prior .now) in
     let y = lexiconOf (l .done .names) (l .spellings) (l .first) (l .prior) in (
-      (refl, l .inv .4 ∙ ap (λ (k : Cursor). k .line) (c .before .before .before .before .before .before .past-blanks .ensures)),
+      (refl, l .inv .4 ∙ ap (λ (k : Cursor). k .line) (at-past-blanks .past-blanks .ensures)),
       passed-fault _ (s .pre .0 .1 .1) (a .text .now) _ (l .here .at) (a .room) x (l .done .room) y (a .row .now) (l .row) (l .inv .0) (a .cursor .at)
-          (s .pre .0 .0) (ap (λ (k : Cursor). k .at) (c .before .before .before .before .before .before .past-blanks .ensures)) _
-          (sym (c .before .before .before .before .sees .ensures) ∙ not-true _ (c .before .before .before .if1 .taken))
-          (sym (c .before .is-name .ensures _ (a .text .now) (c .before .before .word .ensures .0)) ∙ not-true _ (c .if2 .taken)),
+          (s .pre .0 .0) (ap (λ (k : Cursor). k .at) (at-past-blanks .past-blanks .ensures)) _
+          (sym (at-sees .sees .ensures) ∙ not-true _ (at-if1 .if1 .taken))
+          (sym (at-is-name .is-name .ensures _ (a .text .now) (at-word .word .ensures .0)) ∙ not-true _ (c .if2 .taken)),
     )
 
 join-requires : tie.Need-join-requires Inv-loop μ-loop
-join-requires c κs = let s = c .before .before .before .before .before .before .before .before .before .before .before .before .before .before .before .before .before in
+join-requires c κs =
+    let at-if2 = c .before .before .before .before in
+    let at-is-name = at-if2 .before in
+    let at-word = at-is-name .before in
+    let at-loop = at-word .before .before .before in
+    let s = at-loop .before .before .before .before .before .before .before .before in
     let a = s .args in
-    let l = c .before .before .before .before .before .before .before .before .before .loop in
+    let l = at-loop .loop in
     let x = lexiconOf (a .n) (a .spellings .now) (a .first .now) (a .prior .now) in
     let y = lexiconOf (l .done .names) (l .spellings) (l .first) (l .prior) in
-    let w = c .before .before .before .before .before .before .word .ensures in (
+    let w = at-word .word .ensures in (
       (
-        record { good = sym (c .before .before .before .before .before .is-name .ensures _ (a .text .now) (w .0)) ∙ not-false _ (c .before .before .before .before .if2 .left); ends = w .0; hashed = w .1 },
+        record { good = sym (at-is-name .is-name .ensures _ (a .text .now) (w .0)) ∙ not-false _ (at-if2 .if2 .left); ends = w .0; hashed = w .1 },
         s .pre .0 .1,
         l .inv .3 ∙ s .pre .0 .2,
       ),
@@ -61,43 +74,63 @@ join-requires c κs = let s = c .before .before .before .before .before .before 
     )
 
 loop-less : tie.Need-loop-less Inv-loop μ-loop
-loop-less c = let s = c .before .before .before .before .before .before .before .before .before .before .before .before .before .before .before .before .before .before .before .before .before .before .before .before .before .before .before .before in
+loop-less c =
+    let at-moved = c .before in
+    let at-if2 = at-moved .before .before .before .before .before .before .before .before .before .before .before .before .before .before in
+    let at-is-name = at-if2 .before in
+    let at-word = at-is-name .before in
+    let at-loop = at-word .before .before .before in
+    let s = at-loop .before .before .before .before .before .before .before .before in
     let a = s .args in
-    let l = c .before .before .before .before .before .before .before .before .before .before .before .before .before .before .before .before .before .before .before .before .loop in
-    let w = c .before .before .before .before .before .before .before .before .before .before .before .before .before .before .before .before .before .word .ensures in
+    let l = at-loop .loop in
+    let w = at-word .word .ensures in
     walk-less _ (s .pre .0 .1 .1) (a .text .now) _ (l .here .at) (l .inv .0 .words) (l .inv .0 .walk) _
-    (sym (c .before .before .before .before .before .before .before .before .before .before .before .before .before .before .before .before .is-name .ensures _ (a .text .now) (w .0)) ∙ not-false _ (c .before .before .before .before .before .before .before .before .before .before .before .before .before .before .before .if2 .left))
-    (past-word _ (a .text .now) (l .here .at) _ _ (ap (λ (k : Cursor). k .at) (c .before .moved .ensures) ∙ w .0)
+    (sym (at-is-name .is-name .ensures _ (a .text .now) (w .0)) ∙ not-false _ (at-if2 .if2 .left))
+    (past-word _ (a .text .now) (l .here .at) _ _ (ap (λ (k : Cursor). k .at) (at-moved .moved .ensures) ∙ w .0)
     (ap (λ (k : Cursor). k .at) (c .past-blanks2 .ensures)))
 
 loop-again : tie.Need-loop-again Inv-loop μ-loop
-loop-again c = let s = c .before .before .before .before .before .before .before .before .before .before .before .before .before .before .before .before .before .before .before .before .before .before .before .before .before .before .before .before in
+loop-again c =
+    let at-moved = c .before in
+    let at-join = at-moved .before .before .before .before .before .before .before .before .before in
+    let at-if2 = at-join .before .before .before .before .before in
+    let at-is-name = at-if2 .before in
+    let at-word = at-is-name .before in
+    let at-if1 = at-word .before in
+    let at-sees = at-if1 .before in
+    let at-loop = at-sees .before in
+    let s = at-loop .before .before .before .before .before .before .before .before in
     let a = s .args in
-    let l = c .before .before .before .before .before .before .before .before .before .before .before .before .before .before .before .before .before .before .before .before .loop in
-    let w = c .before .before .before .before .before .before .before .before .before .before .before .before .before .before .before .before .before .word .ensures in
-    let j = c .before .before .before .before .before .before .before .before .before .before .join in
+    let l = at-loop .loop in
+    let w = at-word .word .ensures in
+    let j = at-join .join in
     let x = lexiconOf (a .n) (a .spellings .now) (a .first .now) (a .prior .now) in
     let y = lexiconOf (l .done .names) (l .spellings) (l .first) (l .prior) in (
       passed-more _ (s .pre .0 .1 .1) (a .text .now) _ (l .here .at) (a .room) x (l .done .room) y (a .row .now) (l .row) (l .inv .0) _ _ _ _
-          (sym (c .before .before .before .before .before .before .before .before .before .before .before .before .before .before .before .before .before .before .before .sees .ensures) ∙ not-true _ (c .before .before .before .before .before .before .before .before .before .before .before .before .before .before .before .before .before .before .if1 .taken))
-          (sym (c .before .before .before .before .before .before .before .before .before .before .before .before .before .before .before .before .is-name .ensures _ (a .text .now) (w .0)) ∙ not-false _ (c .before .before .before .before .before .before .before .before .before .before .before .before .before .before .before .if2 .left))
-          (past-word _ (a .text .now) (l .here .at) _ _ (ap (λ (k : Cursor). k .at) (c .before .moved .ensures) ∙ w .0)
+          (sym (at-sees .sees .ensures) ∙ not-true _ (at-if1 .if1 .taken))
+          (sym (at-is-name .is-name .ensures _ (a .text .now) (w .0)) ∙ not-false _ (at-if2 .if2 .left))
+          (past-word _ (a .text .now) (l .here .at) _ _ (ap (λ (k : Cursor). k .at) (at-moved .moved .ensures) ∙ w .0)
           (ap (λ (k : Cursor). k .at) (c .past-blanks2 .ensures))) (j .ensures),
       j .kept .1 .1 .1 .1 .1 .0 ∙ l .inv .1,
       j .kept .1 .1 .1 .1 .1 .1 .0 ∙ l .inv .2,
       j .kept .1 .1 .1 .1 .1 .1 .1 .0 ∙ l .inv .3,
-      ap (λ (k : Cursor). k .line) (c .past-blanks2 .ensures) ∙ ap (λ (k : Cursor). k .line) (c .before .moved .ensures) ∙ l .inv .4,
+      ap (λ (k : Cursor). k .line) (c .past-blanks2 .ensures) ∙ ap (λ (k : Cursor). k .line) (at-moved .moved .ensures) ∙ l .inv .4,
     )
 
 returns-2 : tie.Need-returns-2 Inv-loop μ-loop
-returns-2 c = let s = c .before .before .before .before .before .before .before .before .before .before in
+returns-2 c =
+    let at-sees = c .before in
+    let at-loop = at-sees .before in
+    let at-past-blanks = at-loop .before in
+    let s = at-past-blanks .before .before .before .before .before .before .before in
     let a = s .args in
-    let l = c .before .before .loop in
+    let l = at-loop .loop in
     let x = lexiconOf (a .n) (a .spellings .now) (a .first .now) (a .prior .now) in
     let y = lexiconOf (l .done .names) (l .spellings) (l .first) (l .prior) in (
-      (refl, l .inv .4 ∙ ap (λ (k : Cursor). k .line) (c .before .before .before .past-blanks .ensures)),
+      (refl, l .inv .4 ∙ ap (λ (k : Cursor). k .line) (at-past-blanks .past-blanks .ensures)),
       passed-end _ (s .pre .0 .1 .1) (a .text .now) _ (l .here .at) (a .room) x (l .done .room) y (a .row .now) (l .row) (l .inv .0) (a .cursor .at)
-          (s .pre .0 .0) (ap (λ (k : Cursor). k .at) (c .before .before .before .past-blanks .ensures)) (sym (c .before .sees .ensures) ∙ not-false _ (c .if1 .left)),
+          (s .pre .0 .0) (ap (λ (k : Cursor). k .at) (at-past-blanks .past-blanks .ensures))
+          (sym (at-sees .sees .ensures) ∙ not-false _ (c .if1 .left)),
     )
 
 pub body-spec : {M : Type 1} → statement M

@@ -13,10 +13,12 @@ find-requires c κs = let s = c .before .before .before .before .before .before 
     ((r .0 .0, r .0 .1, r .0 .2, s .pre .0 .1), r .1)
 
 returns : tie.Need-returns
-returns c = let s = c .before .before .before .before .before .before .before .before .before .before .before in
+returns c =
+    let at-find = c .before in
+    let s = at-find .before .before .before .before .before .before .before .before .before .before in
     let a = s .args in
     let x = lexiconOf (a .n) (a .spellings .now) (a .first .now) (a .prior .now) in
-    met-known _ (s .pre .0 .1 .1) (a .text .now) (a .at) _ _ (s .pre .0 .0) x (s .pre .1) _ (c .before .find .ensures) (c .if1 .taken)
+    met-known _ (s .pre .0 .1 .1) (a .text .now) (a .at) _ _ (s .pre .0 .0) x (s .pre .1) _ (at-find .find .ensures) (c .if1 .taken)
 
 meet-requires : tie.Need-meet-requires
 meet-requires c κs = (c .before .before .before .before .before .before .before .before .before .before .before .before .before .before .pre .0, c .before .before .before .before .before .before .before .before .before .before .before .before .before .before .pre .1)

@@ -20,7 +20,11 @@ use Rattle.clause.proofs.rule.Statement.{statement}
 use Rattle.clause.proofs.rule.Tie as tie
 
 returns : tie.Need-returns
-returns c = let s = c .before .before .before .before .before .before .before .before .before .before in
+returns c =
+    let at-if1 = c .before in
+    let at-is-name = at-if1 .before in
+    let at-word = at-is-name .before in
+    let s = at-word .before .before .before .before .before .before .before in
     let a = s .args in
     let x = lexiconOf (a .n) (a .spellings .now) (a .first .now) (a .prior .now) in
     subst
@@ -32,11 +36,17 @@ returns c = let s = c .before .before .before .before .before .before .before .b
       refl,
       said-fault _ (a .text .now) (a .cursor .at) x _ _ _ (a .row .now)
           (headless _ (s .pre .1 .0 .0 .1) (a .text .now) (a .cursor .at) (s .pre .0 .0) (s .pre .0 .1)
-          (sym (c .before .before .is-name .ensures _ (a .text .now) (c .before .before .before .word .ensures .0)) ∙ not-true _ (c .before .if1 .taken))),
+          (sym (at-is-name .is-name .ensures _ (a .text .now) (at-word .word .ensures .0)) ∙ not-true _ (at-if1 .if1 .taken))),
     )
 
 returns-2 : tie.Need-returns-2
-returns-2 c = let s = c .before .before .before .before .before .before .before .before .before .before .before .before .before .before in
+returns-2 c =
+    let at-if2 = c .before in
+    let at-sees = at-if2 .before in
+    let at-past-blanks = at-sees .before in
+    let at-moved = at-past-blanks .before in
+    let at-word = at-moved .before .before .before in
+    let s = at-word .before .before .before .before .before .before .before in
     let a = s .args in
     let x = lexiconOf (a .n) (a .spellings .now) (a .first .now) (a .prior .now) in
     subst
@@ -45,44 +55,70 @@ returns-2 c = let s = c .before .before .before .before .before .before .before 
     × Said (letters (a .table .now)) (a .text .now) (a .cursor .at) x (r .fault) (r .cursor .at) (r .room) (r .head)
     (lexiconOf (r .names) (a .spellings .now) (a .first .now) (a .prior .now)) (a .row .now))
     (sym (c .at-fault2 .ensures)) (
-      ap (λ (k : Cursor). k .line) (c .before .before .before .past-blanks .ensures) ∙ ap (λ (k : Cursor). k .line) (c .before .before .before .before .moved .ensures),
+      ap (λ (k : Cursor). k .line) (at-past-blanks .past-blanks .ensures) ∙ ap (λ (k : Cursor). k .line) (at-moved .moved .ensures),
       said-fault _ (a .text .now) (a .cursor .at) x _ _ _ (a .row .now)
           (uncoloned _ (s .pre .1 .0 .0 .1) (a .text .now) (a .cursor .at) (s .pre .0 .0) (s .pre .0 .1) _
-          (past-word _ (a .text .now) (a .cursor .at) _ _ (ap (λ (k : Cursor). k .at) (c .before .before .before .before .moved .ensures) ∙ c .before .before .before .before .before .before .before .word .ensures .0)
-          (ap (λ (k : Cursor). k .at) (c .before .before .before .past-blanks .ensures)))
-          (sym (c .before .before .sees .ensures) ∙ not-true _ (c .before .if2 .taken))),
+          (past-word _ (a .text .now) (a .cursor .at) _ _ (ap (λ (k : Cursor). k .at) (at-moved .moved .ensures) ∙ at-word .word .ensures .0)
+          (ap (λ (k : Cursor). k .at) (at-past-blanks .past-blanks .ensures)))
+          (sym (at-sees .sees .ensures) ∙ not-true _ (at-if2 .if2 .taken))),
     )
 
 meet-head-requires : tie.Need-meet-head-requires
-meet-head-requires c κs = let s = c .before .before .before .before .before .before .before .before .before .before .before .before .before .before .before .before in
+meet-head-requires c κs =
+    let at-if1 = c .before .before .before .before .before .before .before in
+    let at-is-name = at-if1 .before in
+    let at-word = at-is-name .before in
+    let s = at-word .before .before .before .before .before .before .before in
     let a = s .args in
-    let w = c .before .before .before .before .before .before .before .before .before .word .ensures in (
-      (record { good = sym (c .before .before .before .before .before .before .before .before .is-name .ensures _ (a .text .now) (w .0)) ∙ not-false _ (c .before .before .before .before .before .before .before .if1 .left); ends = w .0; hashed = w .1 }, s .pre .1 .0 .0),
+    let w = at-word .word .ensures in (
+      (
+        record {
+          good = sym (at-is-name .is-name .ensures _ (a .text .now) (w .0)) ∙ not-false _
+              (at-if1 .if1 .left);
+          ends = w .0;
+          hashed = w .1;
+        },
+        s .pre .1 .0 .0,
+      ),
       s .pre .1 .1,
     )
 
 add-moved : tie.Need-add-moved
-add-moved c = let s = c .before .before .before .before .before .before .before .before .before .before .before .before .before .before .before .before .before .before .before .before .before .before .before .before in
+add-moved c =
+    let at-if2 = c .before .before .before .before .before .before .before .before .before .before .before in
+    let at-sees = at-if2 .before in
+    let at-past-blanks = at-sees .before in
+    let at-moved = at-past-blanks .before in
+    let at-word = at-moved .before .before .before in
+    let s = at-word .before .before .before .before .before .before .before in
     let a = s .args in
     let l =
     colon-in _ (s .pre .1 .0 .0 .1) (a .text .now) (a .cursor .at) (s .pre .0 .0) (s .pre .0 .1) _
-    (past-word _ (a .text .now) (a .cursor .at) _ _ (ap (λ (k : Cursor). k .at) (c .before .before .before .before .before .before .before .before .before .before .before .before .before .before .moved .ensures) ∙ c .before .before .before .before .before .before .before .before .before .before .before .before .before .before .before .before .before .word .ensures .0)
-    (ap (λ (k : Cursor). k .at) (c .before .before .before .before .before .before .before .before .before .before .before .before .before .past-blanks .ensures)))
-    (sym (c .before .before .before .before .before .before .before .before .before .before .before .before .sees .ensures) ∙ not-false _ (c .before .before .before .before .before .before .before .before .before .before .before .if2 .left)) in
+    (past-word _ (a .text .now) (a .cursor .at) _ _ (ap (λ (k : Cursor). k .at) (at-moved .moved .ensures) ∙ at-word .word .ensures .0)
+    (ap (λ (k : Cursor). k .at) (at-past-blanks .past-blanks .ensures)))
+    (sym (at-sees .sees .ensures) ∙ not-false _ (at-if2 .if2 .left)) in
     record { fits = omega (arith, l) }
 
 body-requires : tie.Need-body-requires
-body-requires c κs = let s = c .before .before .before .before .before .before .before .before .before .before .before .before .before .before .before .before .before .before .before .before .before .before .before .before .before .before .before .before .before in
+body-requires c κs =
+    let at-moved2 = c .before .before .before .before in
+    let at-meet-head = at-moved2 .before .before .before .before .before .before .before .before in
+    let at-if2 = at-meet-head .before .before .before .before in
+    let at-sees = at-if2 .before in
+    let at-past-blanks = at-sees .before in
+    let at-moved = at-past-blanks .before in
+    let at-word = at-moved .before .before .before in
+    let s = at-word .before .before .before .before .before .before .before in
     let a = s .args in
-    let m = c .before .before .before .before .before .before .before .before .before .before .before .before .meet-head in
+    let m = at-meet-head .meet-head in
     let x = lexiconOf (a .n) (a .spellings .now) (a .first .now) (a .prior .now) in
     let y = lexiconOf (m .result .names) (m .last .1 .1 .1 .1 .0) (m .last .1 .1 .1 .1 .1 .0) (m .last .1 .1 .1 .1 .1 .1 .0) in (
       (
-        subst (λ (k : Cursor). LineEnds (a .text .now) (k .at)) (sym (c .before .before .before .before .moved2 .ensures))
+        subst (λ (k : Cursor). LineEnds (a .text .now) (k .at)) (sym (at-moved2 .moved2 .ensures))
             (closed-body _ (s .pre .1 .0 .0 .1) (a .text .now) (a .cursor .at) (s .pre .0 .0) (s .pre .0 .1) _
-            (past-word _ (a .text .now) (a .cursor .at) _ _ (ap (λ (k : Cursor). k .at) (c .before .before .before .before .before .before .before .before .before .before .before .before .before .before .before .before .before .before .before .moved .ensures) ∙ c .before .before .before .before .before .before .before .before .before .before .before .before .before .before .before .before .before .before .before .before .before .before .word .ensures .0)
-            (ap (λ (k : Cursor). k .at) (c .before .before .before .before .before .before .before .before .before .before .before .before .before .before .before .before .before .before .past-blanks .ensures)))
-            (sym (c .before .before .before .before .before .before .before .before .before .before .before .before .before .before .before .before .before .sees .ensures) ∙ not-false _ (c .before .before .before .before .before .before .before .before .before .before .before .before .before .before .before .before .if2 .left))),
+            (past-word _ (a .text .now) (a .cursor .at) _ _ (ap (λ (k : Cursor). k .at) (at-moved .moved .ensures) ∙ at-word .word .ensures .0)
+            (ap (λ (k : Cursor). k .at) (at-past-blanks .past-blanks .ensures)))
+            (sym (at-sees .sees .ensures) ∙ not-false _ (at-if2 .if2 .left))),
         s .pre .1 .0 .0,
         ap length (row-clear (a .row .now) (s .pre .1 .0 .1)) ∙ length-pack bodyWords emptySet,
       ),
@@ -90,26 +126,39 @@ body-requires c κs = let s = c .before .before .before .before .before .before 
     )
 
 returns-3 : tie.Need-returns-3
-returns-3 c = let s = c .before .before .before .before .before .before .before .before .before .before .before .before .before .before .before .before .before .before .before .before .before .before .before .before .before .before .before .before .before .before .before .before .before .before .before .before .before .before in
+returns-3 c =
+    let at-body = c .before .before .before .before .before .before .before .before in
+    let at-moved2 = at-body .before .before .before .before .before in
+    let at-meet-head = at-moved2 .before .before .before .before .before .before .before .before in
+    let at-if2 = at-meet-head .before .before .before .before in
+    let at-sees = at-if2 .before in
+    let at-past-blanks = at-sees .before in
+    let at-moved = at-past-blanks .before in
+    let at-if1 = at-moved .before in
+    let at-is-name = at-if1 .before in
+    let at-word = at-is-name .before in
+    let s = at-word .before .before .before .before .before .before .before in
     let a = s .args in
-    let m = c .before .before .before .before .before .before .before .before .before .before .before .before .before .before .before .before .before .before .before .before .before .meet-head in
-    let b = c .before .before .before .before .before .before .before .before .body in
+    let m = at-meet-head .meet-head in
+    let b = at-body .body in
     let x = lexiconOf (a .n) (a .spellings .now) (a .first .now) (a .prior .now) in
     let y = lexiconOf (m .result .names) (m .last .1 .1 .1 .1 .0) (m .last .1 .1 .1 .1 .1 .0) (m .last .1 .1 .1 .1 .1 .1 .0) in
     let z = lexiconOf (b .result .names) (b .last .1 .1 .1 .0) (b .last .1 .1 .1 .1 .0) (b .last .1 .1 .1 .1 .1 .0) in
     let fold = letters (a .table .now) in (
-      b .ensures .0 .1 ∙ ap (λ (k : Cursor). k .line) (c .before .before .before .before .before .before .before .before .before .before .before .before .before .moved2 .ensures) ∙ ap (λ (k : Cursor). k .line) (c .before .before .before .before .before .before .before .before .before .before .before .before .before .before .before .before .before .before .before .before .before .before .before .before .before .before .before .past-blanks .ensures)
-          ∙ ap (λ (k : Cursor). k .line) (c .before .before .before .before .before .before .before .before .before .before .before .before .before .before .before .before .before .before .before .before .before .before .before .before .before .before .before .before .moved .ensures),
+      b .ensures .0 .1 ∙ ap (λ (k : Cursor). k .line) (at-moved2 .moved2 .ensures) ∙ ap (λ (k : Cursor). k .line)
+          (at-past-blanks .past-blanks .ensures)
+          ∙ ap (λ (k : Cursor). k .line) (at-moved .moved .ensures),
       subst (λ (h : ℕ). Said fold (a .text .now) (a .cursor .at) x (b .result .fault) (b .result .cursor .at) (b .result .room) h z
           (b .last .1 .1 .1 .1 .1 .1 .0)) (sym (b .ensures .0 .0))
           (said-body _ (s .pre .1 .0 .0 .1) (a .text .now) (a .cursor .at) _ (s .pre .0 .0) (s .pre .0 .1)
-          (sym (c .before .before .before .before .before .before .before .before .before .before .before .before .before .before .before .before .before .before .before .before .before .before .before .before .before .before .before .before .before .before .is-name .ensures _ (a .text .now) (c .before .before .before .before .before .before .before .before .before .before .before .before .before .before .before .before .before .before .before .before .before .before .before .before .before .before .before .before .before .before .before .word .ensures .0)) ∙ not-false _ (c .before .before .before .before .before .before .before .before .before .before .before .before .before .before .before .before .before .before .before .before .before .before .before .before .before .before .before .before .before .if1 .left))
-          (past-word _ (a .text .now) (a .cursor .at) _ _ (ap (λ (k : Cursor). k .at) (c .before .before .before .before .before .before .before .before .before .before .before .before .before .before .before .before .before .before .before .before .before .before .before .before .before .before .before .before .moved .ensures) ∙ c .before .before .before .before .before .before .before .before .before .before .before .before .before .before .before .before .before .before .before .before .before .before .before .before .before .before .before .before .before .before .before .word .ensures .0)
-          (ap (λ (k : Cursor). k .at) (c .before .before .before .before .before .before .before .before .before .before .before .before .before .before .before .before .before .before .before .before .before .before .before .before .before .before .before .past-blanks .ensures)))
-          (sym (c .before .before .before .before .before .before .before .before .before .before .before .before .before .before .before .before .before .before .before .before .before .before .before .before .before .before .sees .ensures) ∙ not-false _ (c .before .before .before .before .before .before .before .before .before .before .before .before .before .before .before .before .before .before .before .before .before .before .before .before .before .if2 .left)) x _ _ y (m .ensures) _ _ _ z _ _
+          (sym (at-is-name .is-name .ensures _ (a .text .now) (at-word .word .ensures .0)) ∙ not-false _ (at-if1 .if1 .left))
+          (past-word _ (a .text .now) (a .cursor .at) _ _ (ap (λ (k : Cursor). k .at) (at-moved .moved .ensures) ∙ at-word .word .ensures .0)
+          (ap (λ (k : Cursor). k .at) (at-past-blanks .past-blanks .ensures)))
+          (sym (at-sees .sees .ensures) ∙ not-false _ (at-if2 .if2 .left)) x _ _ y (m .ensures) _ _ _ z _ _
           (row-clear (a .row .now) (s .pre .1 .0 .1))
-          (subst (λ (k : Cursor). Bodied fold (a .text .now) (k .at) (m .result .room) y (b .result .fault) (b .result .cursor .at) (b .result .room) z
-          (a .row .now) (b .last .1 .1 .1 .1 .1 .1 .0)) (c .before .before .before .before .before .before .before .before .before .before .before .before .before .moved2 .ensures) (b .ensures .1))),
+          (subst (λ (k : Cursor). Bodied fold (a .text .now) (k .at) (m .result .room) y (b .result .fault) (b .result .cursor .at)
+          (b .result .room) z
+          (a .row .now) (b .last .1 .1 .1 .1 .1 .1 .0)) (at-moved2 .moved2 .ensures) (b .ensures .1))),
     )
 
 pub rule-spec : {M : Type 1} → statement M

@@ -11,8 +11,11 @@ use Rattle.reader.proofs.enter.Tie as tie
 
 returns : tie.Need-returns
 returns c = let s = c .before .before .before .before .before .before .before .before in
-    let a = s .args in
-    (refl, c .before .before .copy .ensures ∙ ap₂ (λ (i : ℕ) (ys : List ℕ). put i ys (a .bodies .now)) (c .before .before .before .body-at .ensures) (part-whole bodyWords (a .row .now) (s .pre .1 .0)))
+    let a = s .args in (
+      refl,
+      c .before .before .copy .ensures ∙ ap₂ (λ (i : ℕ) (ys : List ℕ). put i ys (a .bodies .now))
+          (c .before .before .before .body-at .ensures) (part-whole bodyWords (a .row .now) (s .pre .1 .0)),
+    )
 
 pub enter-spec : {M : Type 1} → statement M
 enter-spec =

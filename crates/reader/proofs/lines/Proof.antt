@@ -13,7 +13,8 @@ use Rattle.reader.proofs.lines.Statement.{statement}
 use Rattle.reader.proofs.lines.Tie as tie
 
 abbrev Inv-loop : tie.InvT-loop
-Inv-loop text table spellings₀ first₀ prior₀ heads₀ bodies₀ reading₀ spellings first prior heads bodies reading = Going (letters table) text (reading .cursor .at) (reading .cursor .line) (tablesAt 0 0 spellings₀ first₀ prior₀ heads₀ bodies₀)
+Inv-loop text table spellings₀ first₀ prior₀ heads₀ bodies₀ reading₀ spellings first prior heads bodies reading = Going (letters table) text
+    (reading .cursor .at) (reading .cursor .line) (tablesAt 0 0 spellings₀ first₀ prior₀ heads₀ bodies₀)
     (tablesAt (reading .names) (reading .rules) spellings first prior heads bodies)
 
 abbrev μ-loop : tie.MeasureT-loop
@@ -27,25 +28,33 @@ loop-holds c = let s = c .before .before .before .before .before .before .before
     (going-start _ (a .text .now) x (s .pre .0 .0) (s .pre .0 .1) (s .pre .0 .2) (s .pre .1))
 
 line-requires : tie.Need-line-requires Inv-loop μ-loop
-line-requires c κs = let s = c .before .before .before .before .before .before .before .before .before .before .before .before .before .before .before .before in
+line-requires c κs =
+    let at-if1 = c .before .before .before .before .before in
+    let at-loop = at-if1 .before .before in
+    let s = at-loop .before .before .before .before .before .before .before .before .before in
     let a = s .args in
-    let l = c .before .before .before .before .before .before .before .loop in
+    let l = at-loop .loop in
     let x = tablesAt 0 0 (a .spellings .now) (a .first .now) (a .prior .now) (a .heads .now) (a .bodies .now) in
     let y = tablesAt (l .reading .names) (l .reading .rules) (l .spellings) (l .first) (l .prior) (l .heads) (l .bodies) in (
       (
-        going-closed _ (a .text .now) (l .reading .cursor .at) (l .reading .cursor .line) x y (l .inv) (c .before .before .before .before .before .if1 .taken),
+        going-closed _ (a .text .now) (l .reading .cursor .at) (l .reading .cursor .line) x y (l .inv) (at-if1 .if1 .taken),
         s .pre .0 .0,
-        going-line _ (a .text .now) (l .reading .cursor .at) (l .reading .cursor .line) x y (l .inv) (c .before .before .before .before .before .if1 .taken),
+        going-line _ (a .text .now) (l .reading .cursor .at) (l .reading .cursor .line) x y (l .inv) (at-if1 .if1 .taken),
         s .pre .0 .3,
       ),
       (l .inv .cs, l .inv .booked),
     )
 
 returns : tie.Need-returns Inv-loop μ-loop
-returns c = let s = c .before .before .before .before .before .before .before .before .before .before .before .before .before .before .before .before .before .before .before .before .before .before .before .before .before .before .before .before .before .before in
+returns c =
+    let at-if2 = c .before in
+    let at-line = at-if2 .before .before .before .before .before .before .before .before .before .before .before .before in
+    let at-if1 = at-line .before .before .before .before .before .before in
+    let at-loop = at-if1 .before .before in
+    let s = at-loop .before .before .before .before .before .before .before .before .before in
     let a = s .args in
-    let l = c .before .before .before .before .before .before .before .before .before .before .before .before .before .before .before .before .before .before .before .before .before .loop in
-    let p = c .before .before .before .before .before .before .before .before .before .before .before .before .before .line in
+    let l = at-loop .loop in
+    let p = at-line .line in
     let x = tablesAt 0 0 (a .spellings .now) (a .first .now) (a .prior .now) (a .heads .now) (a .bodies .now) in
     let y = tablesAt (l .reading .names) (l .reading .rules) (l .spellings) (l .first) (l .prior) (l .heads) (l .bodies) in
     let w =
@@ -64,40 +73,52 @@ returns c = let s = c .before .before .before .before .before .before .before .b
     (p .last .1 .1 .1 .1 .1 .1 .1 .0)))
     (sym (c .refused .ensures)) (
       stayed-on x y z (l .inv .stayed) (record { kept = p .ensures .0 .kept; head-kept = p .ensures .0 .head-kept; body-kept = p .ensures .0 .body-kept }),
-      going-stop _ (a .text .now) (l .reading .cursor .at) (l .reading .cursor .line) x y (l .inv) (c .before .before .before .before .before .before .before .before .before .before .before .before .before .before .before .before .before .before .before .if1 .taken) _ _ _ w
-          (p .ensures .1 (l .inv .cs) (l .inv .booked)) (c .before .if2 .taken) z refl refl,
+      going-stop _ (a .text .now) (l .reading .cursor .at) (l .reading .cursor .line) x y (l .inv) (at-if1 .if1 .taken) _ _ _ w
+          (p .ensures .1 (l .inv .cs) (l .inv .booked)) (at-if2 .if2 .taken) z refl refl,
     )
 
 loop-less : tie.Need-loop-less Inv-loop μ-loop
-loop-less c = let s = c .before .before .before .before .before .before .before .before .before .before .before .before .before .before .before .before .before .before .before .before .before .before .before .before .before .before .before .before .before .before in
+loop-less c =
+    let at-if2 = c .before in
+    let at-line = at-if2 .before .before .before .before .before .before .before .before .before .before .before .before in
+    let at-if1 = at-line .before .before .before .before .before .before in
+    let at-loop = at-if1 .before .before in
+    let s = at-loop .before .before .before .before .before .before .before .before .before in
     let a = s .args in
-    let l = c .before .before .before .before .before .before .before .before .before .before .before .before .before .before .before .before .before .before .before .before .before .loop in
-    let p = c .before .before .before .before .before .before .before .before .before .before .before .before .before .line in
+    let l = at-loop .loop in
+    let p = at-line .line in
     let x = tablesAt 0 0 (a .spellings .now) (a .first .now) (a .prior .now) (a .heads .now) (a .bodies .now) in
     let y = tablesAt (l .reading .names) (l .reading .rules) (l .spellings) (l .first) (l .prior) (l .heads) (l .bodies) in
     let w =
     tablesAt (p .result .after .names) (p .result .after .rules) (p .last .1 .1 .1 .0) (p .last .1 .1 .1 .1 .0) (p .last .1 .1 .1 .1 .1 .0)
     (p .last .1 .1 .1 .1 .1 .1 .0) (p .last .1 .1 .1 .1 .1 .1 .1 .0) in
-    going-less _ (a .text .now) (l .reading .cursor .at) (l .reading .cursor .line) x y (l .inv) (c .before .before .before .before .before .before .before .before .before .before .before .before .before .before .before .before .before .before .before .if1 .taken) _ _ _ w
-    (p .ensures .1 (l .inv .cs) (l .inv .booked)) (c .before .if2 .left)
+    going-less _ (a .text .now) (l .reading .cursor .at) (l .reading .cursor .line) x y (l .inv) (at-if1 .if1 .taken) _ _ _ w
+    (p .ensures .1 (l .inv .cs) (l .inv .booked)) (at-if2 .if2 .left)
 
 loop-again : tie.Need-loop-again Inv-loop μ-loop
-loop-again c = let s = c .before .before .before .before .before .before .before .before .before .before .before .before .before .before .before .before .before .before .before .before .before .before .before .before .before .before .before .before .before .before in
+loop-again c =
+    let at-if2 = c .before in
+    let at-line = at-if2 .before .before .before .before .before .before .before .before .before .before .before .before in
+    let at-if1 = at-line .before .before .before .before .before .before in
+    let at-loop = at-if1 .before .before in
+    let s = at-loop .before .before .before .before .before .before .before .before .before in
     let a = s .args in
-    let l = c .before .before .before .before .before .before .before .before .before .before .before .before .before .before .before .before .before .before .before .before .before .loop in
-    let p = c .before .before .before .before .before .before .before .before .before .before .before .before .before .line in
+    let l = at-loop .loop in
+    let p = at-line .line in
     let x = tablesAt 0 0 (a .spellings .now) (a .first .now) (a .prior .now) (a .heads .now) (a .bodies .now) in
     let y = tablesAt (l .reading .names) (l .reading .rules) (l .spellings) (l .first) (l .prior) (l .heads) (l .bodies) in
     let w =
     tablesAt (p .result .after .names) (p .result .after .rules) (p .last .1 .1 .1 .0) (p .last .1 .1 .1 .1 .0) (p .last .1 .1 .1 .1 .1 .0)
     (p .last .1 .1 .1 .1 .1 .1 .0) (p .last .1 .1 .1 .1 .1 .1 .1 .0) in
-    going-on _ (a .text .now) (l .reading .cursor .at) (l .reading .cursor .line) x y (l .inv) (c .before .before .before .before .before .before .before .before .before .before .before .before .before .before .before .before .before .before .before .if1 .taken) _ _ _ w
-    (p .ensures .1 (l .inv .cs) (l .inv .booked)) (c .before .if2 .left) (p .ensures .0)
+    going-on _ (a .text .now) (l .reading .cursor .at) (l .reading .cursor .line) x y (l .inv) (at-if1 .if1 .taken) _ _ _ w
+    (p .ensures .1 (l .inv .cs) (l .inv .booked)) (at-if2 .if2 .left) (p .ensures .0)
 
 returns-2 : tie.Need-returns-2 Inv-loop μ-loop
-returns-2 c = let s = c .before .before .before .before .before .before .before .before .before .before .before in
+returns-2 c =
+    let at-loop = c .before .before in
+    let s = at-loop .before .before .before .before .before .before .before .before .before in
     let a = s .args in
-    let l = c .before .before .loop in
+    let l = at-loop .loop in
     let x = tablesAt 0 0 (a .spellings .now) (a .first .now) (a .prior .now) (a .heads .now) (a .bodies .now) in
     let y = tablesAt (l .reading .names) (l .reading .rules) (l .spellings) (l .first) (l .prior) (l .heads) (l .bodies) in
     (l .inv .stayed, going-end _ (a .text .now) (l .reading .cursor .at) (l .reading .cursor .line) x y (l .inv) (c .if1 .left))
@@ -121,8 +142,10 @@ lines-spec =
     loop-less
     loop-again
     (λ c. c .before .before .loop .inv .stayed .kept .as-long)
-    (λ c. c .before .before .loop .inv .booked .named .index .first-size ∙ sym (c .before .before .before .before .before .before .before .before .before .before .before .pre .1 .named .index .first-size))
-    (λ c. c .before .before .loop .inv .booked .named .index .prior-size ∙ sym (c .before .before .before .before .before .before .before .before .before .before .before .pre .1 .named .index .prior-size))
+    (λ c. c .before .before .loop .inv .booked .named .index .first-size ∙ sym
+    (c .before .before .before .before .before .before .before .before .before .before .before .pre .1 .named .index .first-size))
+    (λ c. c .before .before .loop .inv .booked .named .index .prior-size ∙ sym
+    (c .before .before .before .before .before .before .before .before .before .before .before .pre .1 .named .index .prior-size))
     (λ c. c .before .before .loop .inv .stayed .head-kept .as-long)
     (λ c. c .before .before .loop .inv .stayed .body-kept .as-long)
     returns-2)

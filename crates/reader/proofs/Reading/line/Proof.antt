@@ -33,115 +33,196 @@ behind-requires c κs = let s = c .before .before .before .before .before .befor
     (ap (λ (k : Cursor). k .at) e) (ap (λ (k : Cursor). k .line) e)
 
 returns : tie.Need-returns
-returns c = let s = c .before .before .before .before .before .before .before .before .before .before .before .before in
+returns c =
+    let at-past-line = c .before in
+    let at-if1 = at-past-line .before in
+    let at-sees = at-if1 .before in
+    let s = at-sees .before .before .before .before .before .before .before .before .before in
     let a = s .args in
     let fold = letters (a .table .now) in
     let x = tablesAt (a .self .names) (a .self .rules) (a .spellings .now) (a .first .now) (a .prior .now) (a .heads .now) (a .bodies .now) in
-    let e = c .before .past-line .ensures in
-    subst (Answered fold (a .text .now) (a .self .cursor .at) (a .self .cursor .line) x (a .spellings .now) (a .first .now) (a .prior .now) (a .heads .now) (a .bodies .now))
+    let e = at-past-line .past-line .ensures in
+    subst (Answered fold (a .text .now) (a .self .cursor .at) (a .self .cursor .line) x (a .spellings .now) (a .first .now) (a .prior .now)
+    (a .heads .now) (a .bodies .now))
     (sym (c .behind .ensures)) (
       stayed-same x,
       λ cs b.
           stepped-silent fold cs (a .text .now) (a .self .cursor .at) (a .self .cursor .line) _ _ x
-          (remark fold (s .pre .0 .3 .1) (a .text .now) (a .self .cursor .at) (s .pre .0 .0) (sym (c .before .before .before .sees .ensures) ∙ c .before .before .if1 .taken))
+          (remark fold (s .pre .0 .3 .1) (a .text .now) (a .self .cursor .at) (s .pre .0 .0) (sym (at-sees .sees .ensures) ∙ at-if1 .if1 .taken))
           (ap (λ (k : Cursor). k .at + 1) e) (ap (λ (k : Cursor). k .line + 1) e) b,
     )
 
 behind-requires-2 : tie.Need-behind-requires-2
-behind-requires-2 c κs = let s = c .before .before .before .before .before .before .before .before .before .before .before .before .before in
+behind-requires-2 c κs =
+    let at-sees2 = c .before in
+    let at-past-blanks = at-sees2 .before in
+    let at-if1 = at-past-blanks .before in
+    let at-sees = at-if1 .before in
+    let s = at-sees .before .before .before .before .before .before .before .before .before in
     let a = s .args in
     let fold = letters (a .table .now) in
-    let e = c .before .before .past-blanks .ensures in
+    let e = at-past-blanks .past-blanks .ensures in
     end-room (a .text .now) (a .self .cursor .at) (a .self .cursor .line) _ _ (s .pre .0 .0) (s .pre .0 .1) (s .pre .0 .2)
-    (blank-end fold (s .pre .0 .3 .1) (a .text .now) (a .self .cursor .at) (a .self .cursor .line) _ (s .pre .0 .0) (sym (c .before .before .before .before .sees .ensures) ∙ c .before .before .before .if1 .left)
-    (ap (λ (k : Cursor). k .at) (c .before .before .past-blanks .ensures)) (sym (c .before .sees2 .ensures) ∙ c .if2 .taken)) (ap (λ (k : Cursor). k .line) e)
+    (blank-end fold (s .pre .0 .3 .1) (a .text .now) (a .self .cursor .at) (a .self .cursor .line) _ (s .pre .0 .0)
+    (sym (at-sees .sees .ensures) ∙ at-if1 .if1 .left)
+    (ap (λ (k : Cursor). k .at) (at-past-blanks .past-blanks .ensures)) (sym (at-sees2 .sees2 .ensures) ∙ c .if2 .taken))
+    (ap (λ (k : Cursor). k .line) e)
 
 returns-2 : tie.Need-returns-2
-returns-2 c = let s = c .before .before .before .before .before .before .before .before .before .before .before .before .before .before in
+returns-2 c =
+    let at-if2 = c .before in
+    let at-sees2 = at-if2 .before in
+    let at-past-blanks = at-sees2 .before in
+    let at-if1 = at-past-blanks .before in
+    let at-sees = at-if1 .before in
+    let s = at-sees .before .before .before .before .before .before .before .before .before in
     let a = s .args in
     let fold = letters (a .table .now) in
     let x = tablesAt (a .self .names) (a .self .rules) (a .spellings .now) (a .first .now) (a .prior .now) (a .heads .now) (a .bodies .now) in
-    let e = c .before .before .before .past-blanks .ensures in
-    subst (Answered fold (a .text .now) (a .self .cursor .at) (a .self .cursor .line) x (a .spellings .now) (a .first .now) (a .prior .now) (a .heads .now) (a .bodies .now))
+    let e = at-past-blanks .past-blanks .ensures in
+    subst (Answered fold (a .text .now) (a .self .cursor .at) (a .self .cursor .line) x (a .spellings .now) (a .first .now) (a .prior .now)
+    (a .heads .now) (a .bodies .now))
     (sym (c .behind2 .ensures)) (
       stayed-same x,
       λ cs b.
           stepped-silent fold cs (a .text .now) (a .self .cursor .at) (a .self .cursor .line) _ _ x
-          (blank-form fold (s .pre .0 .3 .1) (a .text .now) (a .self .cursor .at) (a .self .cursor .line) _ (s .pre .0 .0) (sym (c .before .before .before .before .before .sees .ensures) ∙ c .before .before .before .before .if1 .left)
-          (ap (λ (k : Cursor). k .at) (c .before .before .before .past-blanks .ensures)) (sym (c .before .before .sees2 .ensures) ∙ c .before .if2 .taken))
-          (ap (λ (j : ℕ). j + 1) (blank-end fold (s .pre .0 .3 .1) (a .text .now) (a .self .cursor .at) (a .self .cursor .line) _ (s .pre .0 .0) (sym (c .before .before .before .before .before .sees .ensures) ∙ c .before .before .before .before .if1 .left)
-          (ap (λ (k : Cursor). k .at) (c .before .before .before .past-blanks .ensures)) (sym (c .before .before .sees2 .ensures) ∙ c .before .if2 .taken))) (ap (λ (k : Cursor). k .line + 1) e) b,
+          (blank-form fold (s .pre .0 .3 .1) (a .text .now) (a .self .cursor .at) (a .self .cursor .line) _ (s .pre .0 .0)
+          (sym (at-sees .sees .ensures) ∙ at-if1 .if1 .left)
+          (ap (λ (k : Cursor). k .at) (at-past-blanks .past-blanks .ensures)) (sym (at-sees2 .sees2 .ensures) ∙ at-if2 .if2 .taken))
+          (ap (λ (j : ℕ). j + 1) (blank-end fold (s .pre .0 .3 .1) (a .text .now) (a .self .cursor .at) (a .self .cursor .line) _ (s .pre .0 .0)
+          (sym (at-sees .sees .ensures) ∙ at-if1 .if1 .left)
+          (ap (λ (k : Cursor). k .at) (at-past-blanks .past-blanks .ensures)) (sym (at-sees2 .sees2 .ensures) ∙ at-if2 .if2 .taken)))
+          (ap (λ (k : Cursor). k .line + 1) e) b,
     )
 
 rule-requires : tie.Need-rule-requires
-rule-requires c κs = let s = c .before .before .before .before .before .before .before .before .before .before .before .before .before .before .before .before .before in
+rule-requires c κs =
+    let at-if2 = c .before .before .before .before in
+    let at-sees2 = at-if2 .before in
+    let at-past-blanks = at-sees2 .before in
+    let at-if1 = at-past-blanks .before in
+    let at-sees = at-if1 .before in
+    let s = at-sees .before .before .before .before .before .before .before .before .before in
     let a = s .args in
     let fold = letters (a .table .now) in
     let x = tablesAt (a .self .names) (a .self .rules) (a .spellings .now) (a .first .now) (a .prior .now) (a .heads .now) (a .bodies .now) in (
       (
-        head-closed fold (s .pre .0 .3 .1) (a .text .now) (a .self .cursor .at) (a .self .cursor .line) _ (s .pre .0 .0) (sym (c .before .before .before .before .before .before .before .before .sees .ensures) ∙ c .before .before .before .before .before .before .before .if1 .left)
-            (ap (λ (k : Cursor). k .at) (c .before .before .before .before .before .before .past-blanks .ensures)),
-        sym (c .before .before .before .before .before .sees2 .ensures) ∙ c .before .before .before .before .if2 .left,
+        head-closed fold (s .pre .0 .3 .1) (a .text .now) (a .self .cursor .at) (a .self .cursor .line) _ (s .pre .0 .0)
+            (sym (at-sees .sees .ensures) ∙ at-if1 .if1 .left)
+            (ap (λ (k : Cursor). k .at) (at-past-blanks .past-blanks .ensures)),
+        sym (at-sees2 .sees2 .ensures) ∙ at-if2 .if2 .left,
       ),
       ((s .pre .0 .3, refl), booked-ready (s .pre .1 .0) x (s .pre .1 .1)),
     )
 
 returns-3 : tie.Need-returns-3
-returns-3 c = let s = c .before .before .before .before .before .before .before .before .before .before .before .before .before .before .before .before .before .before .before .before .before .before .before .before .before .before .before .before in
+returns-3 c =
+    let at-if3 = c .before in
+    let at-rule = at-if3 .before .before .before .before .before .before .before .before .before in
+    let at-if2 = at-rule .before .before .before .before .before in
+    let at-sees2 = at-if2 .before in
+    let at-past-blanks = at-sees2 .before in
+    let at-if1 = at-past-blanks .before in
+    let at-sees = at-if1 .before in
+    let s = at-sees .before .before .before .before .before .before .before .before .before in
     let a = s .args in
     let fold = letters (a .table .now) in
     let x = tablesAt (a .self .names) (a .self .rules) (a .spellings .now) (a .first .now) (a .prior .now) (a .heads .now) (a .bodies .now) in
-    let r = c .before .before .before .before .before .before .before .before .before .before .rule in
+    let r = at-rule .rule in
     let y = lexiconOf (r .result .names) (r .last .1 .1 .1 .0) (r .last .1 .1 .1 .1 .0) (r .last .1 .1 .1 .1 .1 .0) in
-    let w = tablesAt (a .self .names) (a .self .rules) (r .last .1 .1 .1 .0) (r .last .1 .1 .1 .1 .0) (r .last .1 .1 .1 .1 .1 .0) (a .heads .now) (a .bodies .now) in
-    subst (Answered fold (a .text .now) (a .self .cursor .at) (a .self .cursor .line) x (r .last .1 .1 .1 .0) (r .last .1 .1 .1 .1 .0) (r .last .1 .1 .1 .1 .1 .0) (a .heads .now) (a .bodies .now))
+    let w = tablesAt (a .self .names) (a .self .rules) (r .last .1 .1 .1 .0) (r .last .1 .1 .1 .1 .0) (r .last .1 .1 .1 .1 .1 .0) (a .heads .now)
+    (a .bodies .now) in
+    subst (Answered fold (a .text .now) (a .self .cursor .at) (a .self .cursor .line) x (r .last .1 .1 .1 .0) (r .last .1 .1 .1 .1 .0)
+    (r .last .1 .1 .1 .1 .1 .0) (a .heads .now) (a .bodies .now))
     (sym (c .before2 .ensures)) (
       stayed-names x w (r .ensures .1 .kept) refl refl,
-      λ cs b. stepped-fault fold (s .pre .0 .3 .1) (a .text .now) (a .self .cursor .at) (a .self .cursor .line) _ (s .pre .0 .0) (sym (c .before .before .before .before .before .before .before .before .before .before .before .before .before .before .before .before .before .before .before .sees .ensures) ∙ c .before .before .before .before .before .before .before .before .before .before .before .before .before .before .before .before .before .before .if1 .left)
-          (ap (λ (k : Cursor). k .at) (c .before .before .before .before .before .before .before .before .before .before .before .before .before .before .before .before .before .past-blanks .ensures)) (sym (c .before .before .before .before .before .before .before .before .before .before .before .before .before .before .before .before .sees2 .ensures) ∙ c .before .before .before .before .before .before .before .before .before .before .before .before .before .before .before .if2 .left) x _ _ _ _ y (r .last .1 .1 .1 .1 .1 .1 .0) (r .ensures .1) (c .before .if3 .taken) cs _ _ w,
+      λ cs b. stepped-fault fold (s .pre .0 .3 .1) (a .text .now) (a .self .cursor .at) (a .self .cursor .line) _ (s .pre .0 .0)
+          (sym (at-sees .sees .ensures) ∙ at-if1 .if1 .left)
+          (ap (λ (k : Cursor). k .at) (at-past-blanks .past-blanks .ensures)) (sym (at-sees2 .sees2 .ensures) ∙ at-if2 .if2 .left) x _ _ _ _ y
+          (r .last .1 .1 .1 .1 .1 .1 .0) (r .ensures .1) (at-if3 .if3 .taken) cs _ _ w,
     )
 
 returns-4 : tie.Need-returns-4
-returns-4 c = let s = c .before .before .before .before .before .before .before .before .before .before .before .before .before .before .before .before .before .before .before .before .before .before .before .before .before .before .before .before .before in
+returns-4 c =
+    let at-if4 = c .before in
+    let at-if3 = at-if4 .before in
+    let at-rule = at-if3 .before .before .before .before .before .before .before .before .before in
+    let at-if2 = at-rule .before .before .before .before .before in
+    let at-sees2 = at-if2 .before in
+    let at-past-blanks = at-sees2 .before in
+    let at-if1 = at-past-blanks .before in
+    let at-sees = at-if1 .before in
+    let s = at-sees .before .before .before .before .before .before .before .before .before in
     let a = s .args in
     let fold = letters (a .table .now) in
     let x = tablesAt (a .self .names) (a .self .rules) (a .spellings .now) (a .first .now) (a .prior .now) (a .heads .now) (a .bodies .now) in
-    let r = c .before .before .before .before .before .before .before .before .before .before .before .rule in
+    let r = at-rule .rule in
     let y = lexiconOf (r .result .names) (r .last .1 .1 .1 .0) (r .last .1 .1 .1 .1 .0) (r .last .1 .1 .1 .1 .1 .0) in
-    let w = tablesAt (a .self .names) (a .self .rules) (r .last .1 .1 .1 .0) (r .last .1 .1 .1 .1 .0) (r .last .1 .1 .1 .1 .1 .0) (a .heads .now) (a .bodies .now) in
-    subst (Answered fold (a .text .now) (a .self .cursor .at) (a .self .cursor .line) x (r .last .1 .1 .1 .0) (r .last .1 .1 .1 .1 .0) (r .last .1 .1 .1 .1 .1 .0) (a .heads .now) (a .bodies .now))
+    let w = tablesAt (a .self .names) (a .self .rules) (r .last .1 .1 .1 .0) (r .last .1 .1 .1 .1 .0) (r .last .1 .1 .1 .1 .1 .0) (a .heads .now)
+    (a .bodies .now) in
+    subst (Answered fold (a .text .now) (a .self .cursor .at) (a .self .cursor .line) x (r .last .1 .1 .1 .0) (r .last .1 .1 .1 .1 .0)
+    (r .last .1 .1 .1 .1 .1 .0) (a .heads .now) (a .bodies .now))
     (sym (c .before3 .ensures)) (
       stayed-names x w (r .ensures .1 .kept) refl refl,
-      λ cs b. stepped-full fold (s .pre .0 .3 .1) (a .text .now) (a .self .cursor .at) (a .self .cursor .line) _ (s .pre .0 .0) (sym (c .before .before .before .before .before .before .before .before .before .before .before .before .before .before .before .before .before .before .before .before .sees .ensures) ∙ c .before .before .before .before .before .before .before .before .before .before .before .before .before .before .before .before .before .before .before .if1 .left)
-          (ap (λ (k : Cursor). k .at) (c .before .before .before .before .before .before .before .before .before .before .before .before .before .before .before .before .before .before .past-blanks .ensures)) (sym (c .before .before .before .before .before .before .before .before .before .before .before .before .before .before .before .before .before .sees2 .ensures) ∙ c .before .before .before .before .before .before .before .before .before .before .before .before .before .before .before .before .if2 .left) x _ _ _ _ y (r .last .1 .1 .1 .1 .1 .1 .0) (r .ensures .1) (c .before .before .if3 .left) cs b (c .before .if4 .taken) _ _ w,
+      λ cs b. stepped-full fold (s .pre .0 .3 .1) (a .text .now) (a .self .cursor .at) (a .self .cursor .line) _ (s .pre .0 .0)
+          (sym (at-sees .sees .ensures) ∙ at-if1 .if1 .left)
+          (ap (λ (k : Cursor). k .at) (at-past-blanks .past-blanks .ensures)) (sym (at-sees2 .sees2 .ensures) ∙ at-if2 .if2 .left) x _ _ _ _ y
+          (r .last .1 .1 .1 .1 .1 .1 .0) (r .ensures .1) (at-if3 .if3 .left) cs b (at-if4 .if4 .taken) _ _ w,
     )
 
 returns-5 : tie.Need-returns-5
-returns-5 c = let s = c .before .before .before .before .before .before .before .before .before .before .before .before .before .before .before .before .before .before .before .before .before .before .before .before .before .before .before .before .before .before .before in
+returns-5 c =
+    let at-if5 = c .before in
+    let at-if4 = at-if5 .before .before in
+    let at-if3 = at-if4 .before in
+    let at-rule = at-if3 .before .before .before .before .before .before .before .before .before in
+    let at-if2 = at-rule .before .before .before .before .before in
+    let at-sees2 = at-if2 .before in
+    let at-past-blanks = at-sees2 .before in
+    let at-if1 = at-past-blanks .before in
+    let at-sees = at-if1 .before in
+    let s = at-sees .before .before .before .before .before .before .before .before .before in
     let a = s .args in
     let fold = letters (a .table .now) in
     let x = tablesAt (a .self .names) (a .self .rules) (a .spellings .now) (a .first .now) (a .prior .now) (a .heads .now) (a .bodies .now) in
-    let r = c .before .before .before .before .before .before .before .before .before .before .before .before .before .rule in
+    let r = at-rule .rule in
     let y = lexiconOf (r .result .names) (r .last .1 .1 .1 .0) (r .last .1 .1 .1 .1 .0) (r .last .1 .1 .1 .1 .1 .0) in
-    let w = tablesAt (a .self .names) (a .self .rules) (r .last .1 .1 .1 .0) (r .last .1 .1 .1 .1 .0) (r .last .1 .1 .1 .1 .1 .0) (a .heads .now) (a .bodies .now) in
-    subst (Answered fold (a .text .now) (a .self .cursor .at) (a .self .cursor .line) x (r .last .1 .1 .1 .0) (r .last .1 .1 .1 .1 .0) (r .last .1 .1 .1 .1 .1 .0) (a .heads .now) (a .bodies .now))
+    let w = tablesAt (a .self .names) (a .self .rules) (r .last .1 .1 .1 .0) (r .last .1 .1 .1 .1 .0) (r .last .1 .1 .1 .1 .1 .0) (a .heads .now)
+    (a .bodies .now) in
+    subst (Answered fold (a .text .now) (a .self .cursor .at) (a .self .cursor .line) x (r .last .1 .1 .1 .0) (r .last .1 .1 .1 .1 .0)
+    (r .last .1 .1 .1 .1 .1 .0) (a .heads .now) (a .bodies .now))
     (sym (c .before4 .ensures)) (
       stayed-names x w (r .ensures .1 .kept) refl refl,
-      λ cs b. stepped-over fold (s .pre .0 .3 .1) (a .text .now) (a .self .cursor .at) (a .self .cursor .line) _ (s .pre .0 .0) (sym (c .before .before .before .before .before .before .before .before .before .before .before .before .before .before .before .before .before .before .before .before .before .before .sees .ensures) ∙ c .before .before .before .before .before .before .before .before .before .before .before .before .before .before .before .before .before .before .before .before .before .if1 .left)
-          (ap (λ (k : Cursor). k .at) (c .before .before .before .before .before .before .before .before .before .before .before .before .before .before .before .before .before .before .before .before .past-blanks .ensures)) (sym (c .before .before .before .before .before .before .before .before .before .before .before .before .before .before .before .before .before .before .before .sees2 .ensures) ∙ c .before .before .before .before .before .before .before .before .before .before .before .before .before .before .before .before .before .before .if2 .left) x _ _ _ _ y (r .last .1 .1 .1 .1 .1 .1 .0) (r .ensures .1) (c .before .before .before .before .if3 .left) cs b (c .before .before .before .if4 .left) (not-true _ (c .before .if5 .taken)) _ _ w,
+      λ cs b. stepped-over fold (s .pre .0 .3 .1) (a .text .now) (a .self .cursor .at) (a .self .cursor .line) _ (s .pre .0 .0)
+          (sym (at-sees .sees .ensures) ∙ at-if1 .if1 .left)
+          (ap (λ (k : Cursor). k .at) (at-past-blanks .past-blanks .ensures)) (sym (at-sees2 .sees2 .ensures) ∙ at-if2 .if2 .left) x _ _ _ _ y
+          (r .last .1 .1 .1 .1 .1 .1 .0) (r .ensures .1) (at-if3 .if3 .left) cs b (at-if4 .if4 .left) (not-true _ (at-if5 .if5 .taken)) _ _ w,
     )
 
 enter-requires : tie.Need-enter-requires
-enter-requires c κs = let s = c .before .before .before .before .before .before .before .before .before .before .before .before .before .before .before .before .before .before .before .before .before .before .before .before .before .before .before .before .before .before .before .before .before in
+enter-requires c κs =
+    let at-if5 = c .before .before .before in
+    let at-if4 = at-if5 .before .before in
+    let at-if3 = at-if4 .before in
+    let at-rule = at-if3 .before .before .before .before .before .before .before .before .before in
+    let at-if2 = at-rule .before .before .before .before .before in
+    let at-sees2 = at-if2 .before in
+    let at-past-blanks = at-sees2 .before in
+    let at-if1 = at-past-blanks .before in
+    let at-sees = at-if1 .before in
+    let s = at-sees .before .before .before .before .before .before .before .before .before in
     let a = s .args in
     let fold = letters (a .table .now) in
     let x = tablesAt (a .self .names) (a .self .rules) (a .spellings .now) (a .first .now) (a .prior .now) (a .heads .now) (a .bodies .now) in
-    let r = c .before .before .before .before .before .before .before .before .before .before .before .before .before .before .before .rule in
+    let r = at-rule .rule in
     let y = lexiconOf (r .result .names) (r .last .1 .1 .1 .0) (r .last .1 .1 .1 .1 .0) (r .last .1 .1 .1 .1 .1 .0) in
-    let w = tablesAt (a .self .names) (a .self .rules) (r .last .1 .1 .1 .0) (r .last .1 .1 .1 .1 .0) (r .last .1 .1 .1 .1 .1 .0) (a .heads .now) (a .bodies .now) in
+    let w = tablesAt (a .self .names) (a .self .rules) (r .last .1 .1 .1 .0) (r .last .1 .1 .1 .1 .0) (r .last .1 .1 .1 .1 .1 .0) (a .heads .now)
+    (a .bodies .now) in
     let b = s .pre .1 .1 in
-    let d = entering fold (s .pre .0 .3 .1) (a .text .now) (a .self .cursor .at) (a .self .cursor .line) _ (s .pre .0 .0) (sym (c .before .before .before .before .before .before .before .before .before .before .before .before .before .before .before .before .before .before .before .before .before .before .before .before .sees .ensures) ∙ c .before .before .before .before .before .before .before .before .before .before .before .before .before .before .before .before .before .before .before .before .before .before .before .if1 .left)
-    (ap (λ (k : Cursor). k .at) (c .before .before .before .before .before .before .before .before .before .before .before .before .before .before .before .before .before .before .before .before .before .before .past-blanks .ensures)) (sym (c .before .before .before .before .before .before .before .before .before .before .before .before .before .before .before .before .before .before .before .before .before .sees2 .ensures) ∙ c .before .before .before .before .before .before .before .before .before .before .before .before .before .before .before .before .before .before .before .before .if2 .left) x _ _ _ _ y (r .last .1 .1 .1 .1 .1 .1 .0) (r .ensures .1) (c .before .before .before .before .before .before .if3 .left) (s .pre .1 .0) b (c .before .before .before .before .before .if4 .left) (not-false _ (c .before .before .before .if5 .left)) in
+    let d = entering fold (s .pre .0 .3 .1) (a .text .now) (a .self .cursor .at) (a .self .cursor .line) _ (s .pre .0 .0)
+    (sym (at-sees .sees .ensures) ∙ at-if1 .if1 .left)
+    (ap (λ (k : Cursor). k .at) (at-past-blanks .past-blanks .ensures)) (sym (at-sees2 .sees2 .ensures) ∙ at-if2 .if2 .left) x _ _ _ _ y
+    (r .last .1 .1 .1 .1 .1 .1 .0) (r .ensures .1) (at-if3 .if3 .left) (s .pre .1 .0) b (at-if4 .if4 .left) (not-false _ (at-if5 .if5 .left)) in
     ((d .0, b .heads-long, b .bodies-long), (d .1 .0, d .1 .1))
 
 add-behind : tie.Need-add-behind
@@ -149,33 +230,64 @@ add-behind c = let s = c .before .before .before .before .before .before .before
     record { fits = omega (arith, s .pre .1 .1 .few) }
 
 behind-requires-3 : tie.Need-behind-requires-3
-behind-requires-3 c κs = let s = c .before .before .before .before .before .before .before .before .before .before .before .before .before .before .before .before .before .before .before .before .before .before .before .before .before .before .before .before .before .before .before .before .before .before .before .before .before .before in
+behind-requires-3 c κs =
+    let at-if3 = c .before .before .before .before .before .before .before .before .before .before .before in
+    let at-rule = at-if3 .before .before .before .before .before .before .before .before .before in
+    let at-if2 = at-rule .before .before .before .before .before in
+    let at-sees2 = at-if2 .before in
+    let at-past-blanks = at-sees2 .before in
+    let at-if1 = at-past-blanks .before in
+    let at-sees = at-if1 .before in
+    let s = at-sees .before .before .before .before .before .before .before .before .before in
     let a = s .args in
     let fold = letters (a .table .now) in
     let x = tablesAt (a .self .names) (a .self .rules) (a .spellings .now) (a .first .now) (a .prior .now) (a .heads .now) (a .bodies .now) in
-    let r = c .before .before .before .before .before .before .before .before .before .before .before .before .before .before .before .before .before .before .before .before .rule in
+    let r = at-rule .rule in
     let y = lexiconOf (r .result .names) (r .last .1 .1 .1 .0) (r .last .1 .1 .1 .1 .0) (r .last .1 .1 .1 .1 .1 .0) in
-    let w = tablesAt (a .self .names) (a .self .rules) (r .last .1 .1 .1 .0) (r .last .1 .1 .1 .1 .0) (r .last .1 .1 .1 .1 .1 .0) (a .heads .now) (a .bodies .now) in
+    let w = tablesAt (a .self .names) (a .self .rules) (r .last .1 .1 .1 .0) (r .last .1 .1 .1 .1 .0) (r .last .1 .1 .1 .1 .1 .0) (a .heads .now)
+    (a .bodies .now) in
     end-room (a .text .now) (a .self .cursor .at) (a .self .cursor .line) _ _ (s .pre .0 .0) (s .pre .0 .1) (s .pre .0 .2)
-    (rule-end fold (s .pre .0 .3 .1) (a .text .now) (a .self .cursor .at) (a .self .cursor .line) _ (s .pre .0 .0) (sym (c .before .before .before .before .before .before .before .before .before .before .before .before .before .before .before .before .before .before .before .before .before .before .before .before .before .before .before .before .before .sees .ensures) ∙ c .before .before .before .before .before .before .before .before .before .before .before .before .before .before .before .before .before .before .before .before .before .before .before .before .before .before .before .before .if1 .left)
-    (ap (λ (k : Cursor). k .at) (c .before .before .before .before .before .before .before .before .before .before .before .before .before .before .before .before .before .before .before .before .before .before .before .before .before .before .before .past-blanks .ensures)) (sym (c .before .before .before .before .before .before .before .before .before .before .before .before .before .before .before .before .before .before .before .before .before .before .before .before .before .before .sees2 .ensures) ∙ c .before .before .before .before .before .before .before .before .before .before .before .before .before .before .before .before .before .before .before .before .before .before .before .before .before .if2 .left) x _ _ _ _ y (r .last .1 .1 .1 .1 .1 .1 .0) (r .ensures .1) (c .before .before .before .before .before .before .before .before .before .before .before .if3 .left)) (r .ensures .0 ∙ ap (λ (k : Cursor). k .line) (c .before .before .before .before .before .before .before .before .before .before .before .before .before .before .before .before .before .before .before .before .before .before .before .before .before .before .before .past-blanks .ensures))
+    (rule-end fold (s .pre .0 .3 .1) (a .text .now) (a .self .cursor .at) (a .self .cursor .line) _ (s .pre .0 .0)
+    (sym (at-sees .sees .ensures) ∙ at-if1 .if1 .left)
+    (ap (λ (k : Cursor). k .at) (at-past-blanks .past-blanks .ensures)) (sym (at-sees2 .sees2 .ensures) ∙ at-if2 .if2 .left) x _ _ _ _ y
+    (r .last .1 .1 .1 .1 .1 .1 .0) (r .ensures .1) (at-if3 .if3 .left))
+    (r .ensures .0 ∙ ap (λ (k : Cursor). k .line) (at-past-blanks .past-blanks .ensures))
 
 returns-6 : tie.Need-returns-6
-returns-6 c = let s = c .before .before .before .before .before .before .before .before .before .before .before .before .before .before .before .before .before .before .before .before .before .before .before .before .before .before .before .before .before .before .before .before .before .before .before .before .before .before .before in
+returns-6 c =
+    let at-enter = c .before .before .before .before .before in
+    let at-if5 = at-enter .before .before .before .before in
+    let at-if4 = at-if5 .before .before in
+    let at-if3 = at-if4 .before in
+    let at-rule = at-if3 .before .before .before .before .before .before .before .before .before in
+    let at-if2 = at-rule .before .before .before .before .before in
+    let at-sees2 = at-if2 .before in
+    let at-past-blanks = at-sees2 .before in
+    let at-if1 = at-past-blanks .before in
+    let at-sees = at-if1 .before in
+    let s = at-sees .before .before .before .before .before .before .before .before .before in
     let a = s .args in
     let fold = letters (a .table .now) in
     let x = tablesAt (a .self .names) (a .self .rules) (a .spellings .now) (a .first .now) (a .prior .now) (a .heads .now) (a .bodies .now) in
-    let r = c .before .before .before .before .before .before .before .before .before .before .before .before .before .before .before .before .before .before .before .before .before .rule in
+    let r = at-rule .rule in
     let y = lexiconOf (r .result .names) (r .last .1 .1 .1 .0) (r .last .1 .1 .1 .1 .0) (r .last .1 .1 .1 .1 .1 .0) in
-    let w = tablesAt (a .self .names) (a .self .rules) (r .last .1 .1 .1 .0) (r .last .1 .1 .1 .1 .0) (r .last .1 .1 .1 .1 .1 .0) (a .heads .now) (a .bodies .now) in
-    let d = c .before .before .before .before .before .enter in
-    subst (Answered fold (a .text .now) (a .self .cursor .at) (a .self .cursor .line) x (r .last .1 .1 .1 .0) (r .last .1 .1 .1 .1 .0) (r .last .1 .1 .1 .1 .1 .0) (d .last .0) (d .last .1 .0))
+    let w = tablesAt (a .self .names) (a .self .rules) (r .last .1 .1 .1 .0) (r .last .1 .1 .1 .1 .0) (r .last .1 .1 .1 .1 .1 .0) (a .heads .now)
+    (a .bodies .now) in
+    let d = at-enter .enter in
+    subst (Answered fold (a .text .now) (a .self .cursor .at) (a .self .cursor .line) x (r .last .1 .1 .1 .0) (r .last .1 .1 .1 .1 .0)
+    (r .last .1 .1 .1 .1 .1 .0) (d .last .0) (d .last .1 .0))
     (sym (c .behind3 .ensures)) (
-      stayed-rule fold (s .pre .0 .3 .1) (a .text .now) (a .self .cursor .at) (a .self .cursor .line) _ (s .pre .0 .0) (sym (c .before .before .before .before .before .before .before .before .before .before .before .before .before .before .before .before .before .before .before .before .before .before .before .before .before .before .before .before .before .before .sees .ensures) ∙ c .before .before .before .before .before .before .before .before .before .before .before .before .before .before .before .before .before .before .before .before .before .before .before .before .before .before .before .before .before .if1 .left)
-          (ap (λ (k : Cursor). k .at) (c .before .before .before .before .before .before .before .before .before .before .before .before .before .before .before .before .before .before .before .before .before .before .before .before .before .before .before .before .past-blanks .ensures)) (sym (c .before .before .before .before .before .before .before .before .before .before .before .before .before .before .before .before .before .before .before .before .before .before .before .before .before .before .before .sees2 .ensures) ∙ c .before .before .before .before .before .before .before .before .before .before .before .before .before .before .before .before .before .before .before .before .before .before .before .before .before .before .if2 .left) x _ _ _ _ y (r .last .1 .1 .1 .1 .1 .1 .0) (r .ensures .1) (c .before .before .before .before .before .before .before .before .before .before .before .before .if3 .left) (s .pre .1 .0) (s .pre .1 .1) (c .before .before .before .before .before .before .before .before .before .before .before .if4 .left) (not-false _ (c .before .before .before .before .before .before .before .before .before .if5 .left)) (d .last .0) (d .last .1 .0) (d .ensures .0) (d .ensures .1),
-      λ cs b. stepped-rule fold (s .pre .0 .3 .1) (a .text .now) (a .self .cursor .at) (a .self .cursor .line) _ (s .pre .0 .0) (sym (c .before .before .before .before .before .before .before .before .before .before .before .before .before .before .before .before .before .before .before .before .before .before .before .before .before .before .before .before .before .before .sees .ensures) ∙ c .before .before .before .before .before .before .before .before .before .before .before .before .before .before .before .before .before .before .before .before .before .before .before .before .before .before .before .before .before .if1 .left)
-          (ap (λ (k : Cursor). k .at) (c .before .before .before .before .before .before .before .before .before .before .before .before .before .before .before .before .before .before .before .before .before .before .before .before .before .before .before .before .past-blanks .ensures)) (sym (c .before .before .before .before .before .before .before .before .before .before .before .before .before .before .before .before .before .before .before .before .before .before .before .before .before .before .before .sees2 .ensures) ∙ c .before .before .before .before .before .before .before .before .before .before .before .before .before .before .before .before .before .before .before .before .before .before .before .before .before .before .if2 .left) x _ _ _ _ y (r .last .1 .1 .1 .1 .1 .1 .0) (r .ensures .1) (c .before .before .before .before .before .before .before .before .before .before .before .before .if3 .left) cs b (c .before .before .before .before .before .before .before .before .before .before .before .if4 .left) (not-false _ (c .before .before .before .before .before .before .before .before .before .if5 .left)) (d .last .0) (d .last .1 .0) (d .ensures .0) (d .ensures .1) _ _ refl
-          (ap (λ (j : ℕ). j + 1) (r .ensures .0 ∙ ap (λ (k : Cursor). k .line) (c .before .before .before .before .before .before .before .before .before .before .before .before .before .before .before .before .before .before .before .before .before .before .before .before .before .before .before .before .past-blanks .ensures))),
+      stayed-rule fold (s .pre .0 .3 .1) (a .text .now) (a .self .cursor .at) (a .self .cursor .line) _ (s .pre .0 .0)
+          (sym (at-sees .sees .ensures) ∙ at-if1 .if1 .left)
+          (ap (λ (k : Cursor). k .at) (at-past-blanks .past-blanks .ensures)) (sym (at-sees2 .sees2 .ensures) ∙ at-if2 .if2 .left) x _ _ _ _ y
+          (r .last .1 .1 .1 .1 .1 .1 .0) (r .ensures .1) (at-if3 .if3 .left) (s .pre .1 .0) (s .pre .1 .1) (at-if4 .if4 .left)
+          (not-false _ (at-if5 .if5 .left)) (d .last .0) (d .last .1 .0) (d .ensures .0) (d .ensures .1),
+      λ cs b. stepped-rule fold (s .pre .0 .3 .1) (a .text .now) (a .self .cursor .at) (a .self .cursor .line) _ (s .pre .0 .0)
+          (sym (at-sees .sees .ensures) ∙ at-if1 .if1 .left)
+          (ap (λ (k : Cursor). k .at) (at-past-blanks .past-blanks .ensures)) (sym (at-sees2 .sees2 .ensures) ∙ at-if2 .if2 .left) x _ _ _ _ y
+          (r .last .1 .1 .1 .1 .1 .1 .0) (r .ensures .1) (at-if3 .if3 .left) cs b (at-if4 .if4 .left) (not-false _ (at-if5 .if5 .left))
+          (d .last .0) (d .last .1 .0) (d .ensures .0) (d .ensures .1) _ _ refl
+          (ap (λ (j : ℕ). j + 1) (r .ensures .0 ∙ ap (λ (k : Cursor). k .line) (at-past-blanks .past-blanks .ensures))),
     )
 
 pub line-spec : {M : Type 1} → statement M
