@@ -2,26 +2,25 @@
 -- what is written is written within them, with the rest after it.
 -- Assumes nothing.
 use mathlib.Core.Path.{_≡_, refl, sym, ap, ap₂, _∙_, fun-ext}
-use mathlib.Core.Bool.{Bool, true, not, _&&_, _||_}
-use mathlib.Core.List.{List, [], _∷_, _++_, append-assoc, append-nil}
+use mathlib.Core.Bool.{Bool, not, _&&_, _||_}
+use mathlib.Core.List.{List, [], _++_}
 use Prim.Native.Nat.{ℕ, zero, suc, _+_, _-_, _*_, _≤_, _<_}
 use native.Mathlib.Nat.{le-trans, suc-mul, mul-le-mul-right}
 use native.Mathlib.Omega.{arith}
 use lib.Dec.{eqb, leb, ltb}
-use borrow.Author.Tests.{ltb-true, lt-ltb}
-use lib.ListN.{length, getD, take, drop, replicate, length-take, take-append-drop}
-use lib.Seq.{getD-take, take-take, slice-empty, ext-getD}
+use lib.ListN.{getD, take, drop}
+use lib.Seq.{getD-take, ext-getD}
 use Rattle.limits.specs.Book.{names, rules, atoms, wordBits, rowWords, bodyWords, bodyArea, rowArea}
 use Rattle.sets.specs.Set.{Set, Same, pick, exists, within}
-use Rattle.sets.proofs.Logic.{either, iff, pick-true, pick-false}
 use Rattle.sets.proofs.Tests.{every-same, exists-same, within-same}
 use Rattle.sets.proofs.Rounds.{rounds-agree, reached-agree}
-use Rattle.words.specs.Row.{row, pack, part}
+use Rattle.words.specs.Row.{row, pack}
 use Rattle.words.proofs.Rows.{length-pack}
 use Rattle.program.specs.Program.{Rule, Program, noRule}
 use Rattle.program.specs.System.{System, round, unfoldOnce, rowsAfter, roundsOf, heldBy}
 use Rattle.program.specs.Standard.{allRow, anyRow, startSet, standard}
-use Rattle.tables.specs.Areas.{Areas, RuleTables, Counts, filled, ruleAt, rulesFrom, rulesOnly, programIn}
+use Rattle.tables.specs.Areas.{Areas, RuleTables, Counts, ruleAt, rulesFrom, rulesOnly, programIn}
+use Rattle.tables.proofs.Sizes.{both-parts, short-first, part-first, begun-first, filled-first, pick-first}
 use Rattle.tables.specs.Begun.{begun}
 use Rattle.tables.proofs.Encoding.{length-rulesFrom, getD-rulesFrom}
 use Rattle.systems.specs.Rows.{RowAreas, rowIn, packed, below, formedRows}
@@ -38,26 +37,6 @@ use Rattle.systems.proofs.Standard.{standardWell}
 
 -- The first entries of an area.
 
--- they and what follows them
-both-parts : (size : ℕ) (area : List ℕ) → area ≡ take size area ++ drop size area
-both-parts size area = sym (take-append-drop size area)
-
--- they are too few where the area is too short
-short-first : (size : ℕ) (area : List ℕ) → ltb (length area) size ≡ ltb (length (take size area)) size
-short-first size area =
-    iff (ltb (length area) size) (ltb (length (take size area)) size)
-    (λ e. let l : length area < size = ltb-true (length area) size e in
-    lt-ltb (length (take size area)) size (simp length-take (omega arith)))
-    (λ e. let l : length (take size area) < size = ltb-true (length (take size area)) size e in
-    lt-ltb (length area) size (omega (arith, length-take size area)))
-
--- a part that lies within them
-part-first : (at w size : ℕ) (area : List ℕ) → at + w ≤ size → part at w area ≡ part at w (take size area)
-part-first zero w size area h = sym (take-take w size area (omega arith))
-part-first (suc at) w zero area h = absurd (omega arith)
-part-first (suc at) w (suc size) [] h = refl
-part-first (suc at) w (suc size) (x ∷ area) h = part-first at w size area (omega arith)
-
 -- a row of them
 row-first : (w r size : ℕ) (area : List ℕ) → r * w ≤ size → (i : ℕ) → i < r → rowIn w area i ≡ rowIn w (take size area) i
 row-first w r size area h i l =
@@ -72,35 +51,6 @@ formed-first w r m size area h =
     every-same r (λ i. within (w * wordBits) (rowIn w area i) (λ k. ltb i m && ltb k m))
     (λ i. within (w * wordBits) (rowIn w (take size area) i) (λ k. ltb i m && ltb k m))
     (λ i l. ap (λ (f : Set). within (w * wordBits) f (λ k. ltb i m && ltb k m)) (row-first w r size area h i l))
-
--- what follows n of them, with the rest after it
-drop-first : (n size : ℕ) (area : List ℕ) → n ≤ size → drop n (take size area) ++ drop size area ≡ drop n area
-drop-first zero size area h = take-append-drop size area
-drop-first (suc n) zero area h = absurd (omega arith)
-drop-first (suc n) (suc size) [] h = refl
-drop-first (suc n) (suc size) (x ∷ area) h = drop-first n size area (omega arith)
-
--- an area begun within them has the rest after it
-begun-first : (size : ℕ) (xs old : List ℕ) → length xs ≤ size → begun xs old ≡ begun xs (take size old) ++ drop size old
-unfolding begun
-begun-first size xs old h =
-    ap (λ (t : List ℕ). xs ++ t) (sym (drop-first (length xs) size old h))
-    ∙ sym (append-assoc xs (drop (length xs) (take size old)) (drop size old))
-
--- and so has one that is filled to their end
-filled-first : (size : ℕ) (xs old : List ℕ) → filled size xs old ≡ filled size xs (take size old) ++ drop size old
-unfolding filled
-filled-first size xs old =
-    let z : List ℕ = replicate (size - length xs) 0 in
-    sym (ap (λ (t : List ℕ). (xs ++ (z ++ t)) ++ drop size old) (slice-empty size old)
-    ∙ ap (λ (t : List ℕ). (xs ++ t) ++ drop size old) (append-nil z) ∙ append-assoc xs z (drop size old))
-
--- a choice has the rest after it where the tests agree and each way out has
-pick-first : {A : Type 0} (rest : A → A) {a b : Bool} {x y x′ y′ : A}
-    → a ≡ b → (a ≡ true → x ≡ rest x′) → y ≡ rest y′ → pick a x y ≡ rest (pick b x′ y′)
-pick-first rest {a} {b} {x} {y} {x′} {y′} e p q =
-    either a (λ t. pick-true x y t ∙ p t ∙ ap rest (sym (pick-true x′ y′ (sym e ∙ t))))
-    (λ t. pick-false x y t ∙ q ∙ ap rest (sym (pick-false x′ y′ (sym e ∙ t))))
 
 -- The fold call.
 
