@@ -3,26 +3,14 @@
 // What is cleared: the engine's call zeroes its own areas (names, heads, bodies, three areas of rows, model) on
 // every call, and what a book leaves unused once more, as document 01 has it for lent areas; that is in its time. The C programs clear
 // nothing that they write before they read it. All three zero the listing's tail. Nothing is cleared between calls here.
-#define _POSIX_C_SOURCE 200809L
-#include "shapes.h"
+#include "timing.h"
 
 #include <stdio.h>
 #include <stdlib.h>
 #include <string.h>
-#include <time.h>
-
-enum { SAMPLES = 101, WARM = 5 };
-
-typedef uint64_t call(const uint8_t *, size_t, uint64_t, uint8_t *, size_t);
 
 static call *const calls[3] = {dpb_list, baseline_list, counting_list};
 static const char *const call_names[3] = {"dpb_list", "baseline", "counting"};
-
-static double now(void) {
-    struct timespec t;
-    clock_gettime(CLOCK_MONOTONIC, &t);
-    return (double)t.tv_sec * 1e6 + (double)t.tv_nsec / 1e3;
-}
 
 // Where the names begin: after the head line.
 static const uint8_t *names_in(const uint8_t *listing) {
@@ -88,45 +76,6 @@ static void compare_spoilt(void) {
     printf("compared: %zu spoilt books, %zu of them accepted; the same numbers and listings\n", compared, accepted);
 }
 
-static int by_value(const void *a, const void *b) {
-    double x = *(const double *)a, y = *(const double *)b;
-    return (x > y) - (x < y);
-}
-
-static double median(double *values) {
-    qsort(values, SAMPLES, sizeof *values, by_value);
-    return values[SAMPLES / 2];
-}
-
-// Microseconds for one call, over a batch.
-static double sample(call *f, const struct text *text, uint64_t folds, size_t batch) {
-    static uint8_t listing[DPB_LISTING_BYTES];
-    double start = now();
-    for (size_t k = 0; k < batch; k++) f(text->bytes, text->length, folds, listing, sizeof listing);
-    return (now() - start) / (double)batch;
-}
-
-// A batch that takes half a millisecond or more.
-static size_t batch_for(call *f, const struct text *text, uint64_t folds) {
-    size_t batch = 1;
-    while (sample(f, text, folds, batch) * (double)batch < 500) batch *= 2;
-    return batch;
-}
-
-// The three by turns, so that what slows the machine for a while slows all of them.
-static void measure(const struct text *text, uint64_t folds, double result[3]) {
-    static double samples[3][SAMPLES];
-    size_t batch[3];
-    for (size_t c = 0; c < 3; c++) batch[c] = batch_for(calls[c], text, folds);
-    for (int s = -WARM; s < SAMPLES; s++) {
-        for (size_t c = 0; c < 3; c++) {
-            double t = sample(calls[c], text, folds, batch[c]);
-            if (s >= 0) samples[c][s] = t;
-        }
-    }
-    for (size_t c = 0; c < 3; c++) result[c] = median(samples[c]);
-}
-
 struct worst {
     const char *shape;
     uint64_t folds;
@@ -141,7 +90,7 @@ static void run_shape(const struct shape *shape, uint64_t folds, struct worst *w
     uint64_t number = baseline_list(text.bytes, text.length, folds, listing, sizeof listing);
     demand((number != 0) == shape->reading, shape->name, folds);
     double t[3];
-    measure(&text, folds, t);
+    measure(calls, 3, &text, folds, t);
     printf("| %-22s | %5zu | %d | %8.2f | %8.2f | %5.2f | %8.2f | %6.2f |\n", shape->name, text.length, (int)folds, t[0], t[1], t[0] / t[1], t[2],
            t[0] / t[2]);
     fflush(stdout);
