@@ -8,8 +8,8 @@ use native.Mathlib.Nat.{add-zero}
 use native.Mathlib.Numerals.{add-one}
 use native.Mathlib.Omega.{arith}
 use lib.Dec.{eqb, leb, eqb·suc-zero}
-use lib.ListN.{length, getD, take, drop, set, replicate, length-drop, length-map, List·getD-map, drop-of-length-le}
-use lib.Seq.{drop-cons, getD-take, getD-drop, take-all, drop-drop, paste, paste-suc, take-paste, drop-paste}
+use lib.ListN.{length, getD, take, drop, set, replicate, length-drop, length-map, length-replicate, List·getD-map, drop-of-length-le, replicate-append-replicate}
+use lib.Seq.{drop-cons, getD-take, getD-drop, length-take-le, take-all, take-at, drop-at, drop-drop, paste, paste-suc}
 use borrow.Author.Tests.{eq-eqb, ne-eqb, eqb-true, eqb-false, leb-true}
 use Rattle.limits.specs.Book.{names, nameBytes, nameArea}
 use Rattle.sets.specs.Set.{pick}
@@ -190,26 +190,31 @@ module _ (fold : ℕ → ℕ) (law : Folding fold) (area : Bytes) (a : ℕ) (tex
   spells-less r i q l m s e =
       sym (ap (λ (b : Bool). b || eqb (getD area (r + len) 0) 0) (ne-eqb len nameBytes e)) ∙ spells-end r i q l m s
 
--- the zeros after a word written into old from place r
+-- a word written into a row that is clear
 write-end : (old w : Bytes) (r len : ℕ) → length w ≡ len → len ≤ nameBytes → r + nameBytes ≤ length old
-    → cleared (r + len) (r + nameBytes) (paste old r w len) ≡ put r (padded w) old
+    → paste (cleared r (r + nameBytes) old) r w len ≡ put r (padded w) old
 unfolding padded
 write-end old w r len e l h =
-    let n : r + nameBytes - (r + len) ≡ nameBytes - length w = omega arith in
-    let m : r + nameBytes ≡ r + len + (nameBytes - len) = omega arith in
-    let k : r + length (padded w) ≡ r + nameBytes = ap (λ (x : ℕ). r + x) (length-padded w (omega arith)) in
-    let tail : (xs : List ℕ) → drop (r + nameBytes) xs ≡ drop (nameBytes - len) (drop (r + len) xs) =
-    λ xs. ap (λ (x : ℕ). drop x xs) m ∙ sym (drop-drop (nameBytes - len) (r + len) xs) in
-    let c : List ℕ = paste old r w len in
-    let front : take (r + len) c ≡ take r old ++ w =
-    take-paste old r w len (omega arith) (omega arith) ∙ ap (λ (xs : List ℕ). take r old ++ xs) (take-all len w (omega arith)) in
-    let back : drop (r + nameBytes) c ≡ drop (r + nameBytes) old =
-    tail c ∙ ap (drop (nameBytes - len)) (drop-paste old r w len (omega arith) (omega arith)) ∙ sym (tail old) in
-    ap₂ (λ (xs ys : List ℕ). xs ++ (replicate (r + nameBytes - (r + len)) 0 ++ ys)) front back
-    ∙ ap (λ (x : ℕ). take r old ++ w ++ (replicate x 0 ++ drop (r + nameBytes) old)) n
-    ∙ append-assoc (take r old) w (replicate (nameBytes - length w) 0 ++ drop (r + nameBytes) old)
-    ∙ ap (λ (xs : List ℕ). take r old ++ xs) (sym (append-assoc w (replicate (nameBytes - length w) 0) (drop (r + nameBytes) old)))
-    ∙ ap (λ (x : ℕ). take r old ++ (padded w ++ drop x old)) (sym k)
+    let before : length (take r old) ≡ r = length-take-le r old (omega arith) in
+    let size : r + nameBytes - r ≡ len + (nameBytes - length w) = omega arith in
+    let zeros : replicate {A = ℕ} (r + nameBytes - r) 0 ≡ replicate len 0 ++ replicate (nameBytes - length w) 0 =
+    ap (λ (k : ℕ). replicate {A = ℕ} k 0) size ∙ sym (replicate-append-replicate len (nameBytes - length w) 0) in
+    let rest : List ℕ = drop (r + nameBytes) old in
+    let clear : List ℕ = cleared r (r + nameBytes) old in
+    let front : take r clear ≡ take r old = take-at (take r old) (replicate (r + nameBytes - r) 0 ++ rest) r before in
+    let back : drop (r + len) clear ≡ replicate (nameBytes - length w) 0 ++ rest =
+    sym (drop-drop len r clear)
+    ∙ ap (drop len)
+    (drop-at (take r old) (replicate (r + nameBytes - r) 0 ++ rest) r before
+    ∙ ap (λ (xs : List ℕ). xs ++ rest) zeros
+    ∙ append-assoc (replicate len 0) (replicate (nameBytes - length w) 0) rest)
+    ∙ drop-at (replicate len 0) (replicate (nameBytes - length w) 0 ++ rest) len (length-replicate len 0) in
+    let all : r + nameBytes ≡ r + length (padded w) = ap (λ (x : ℕ). r + x) (sym (length-padded w (omega arith))) in
+    ap₂ (λ (xs ys : List ℕ). xs ++ take len w ++ ys) front back
+    ∙ ap (λ (xs : List ℕ). take r old ++ xs ++ (replicate (nameBytes - length w) 0 ++ rest)) (take-all len w (omega arith))
+    ∙ append-assoc (take r old) w (replicate (nameBytes - length w) 0 ++ rest)
+    ∙ ap (λ (xs : List ℕ). take r old ++ xs) (sym (append-assoc w (replicate (nameBytes - length w) 0) rest))
+    ∙ ap (λ (x : ℕ). take r old ++ (padded w ++ drop x old)) all
 
 -- the word written into old from place r
 module _ (fold : ℕ → ℕ) (law : Folding fold) (old text : Bytes) (r at len : ℕ) (h : NameAt fold text at len) (room : r + nameBytes ≤ length old) where
@@ -223,11 +228,11 @@ module _ (fold : ℕ → ℕ) (law : Folding fold) (old text : Bytes) (r at len 
       ∙ paste-suc old r (wordAt fold text at len) i 0 (omega arith) (omega arith)
       ∙ ap (paste old r (wordAt fold text at len)) (sym (add-one i))
 
-  -- and then the zeros
-  pub write-all : (a : ℕ) (cur last : Bytes) (i : ℕ) → r ≡ a * nameBytes → i ≤ len → len ≤ i → cur ≡ paste old r (wordAt fold text at len) i
-      → last ≡ cleared (r + len) (r + nameBytes) cur → last ≡ put (a * nameBytes) (padded (wordAt fold text at len)) old
-  write-all a cur last i q l m p e =
+  -- all of them, where the row was cleared before
+  pub write-all : (a : ℕ) (clear cur : Bytes) (i : ℕ) → r ≡ a * nameBytes → clear ≡ cleared r (r + nameBytes) old → i ≤ len → len ≤ i
+      → cur ≡ paste clear r (wordAt fold text at len) i → cur ≡ put (a * nameBytes) (padded (wordAt fold text at len)) old
+  write-all a clear cur i q e l m p =
       let k : i ≡ len = omega arith in
-      e ∙ ap (cleared (r + len) (r + nameBytes)) (p ∙ ap (paste old r (wordAt fold text at len)) k)
+      p ∙ ap₂ (λ (xs : Bytes) (x : ℕ). paste xs r (wordAt fold text at len) x) e k
       ∙ write-end old (wordAt fold text at len) r len (word-length fold law text at len h) (name-fits fold law text at len h) room
       ∙ ap (λ (x : ℕ). put x (padded (wordAt fold text at len)) old) q

@@ -65,7 +65,8 @@ pub fn find(
     n
 }
 
-// Row a becomes that word, padded with zeros.
+// Row a becomes that word, padded with zeros. The row is cleared as a whole, since a length that the compiler knows costs two stores and not
+// a call.
 pub fn write_name(spellings: &mut [u8], a: usize, text: &[u8], table: &[u8], at: usize, len: usize)
     requires { ⌜ (a < names) × (nameArea ≤ length (now spellings))
         × NameAt (letters (now table)) (now text) at len × FoldTable (now table) ⌝ }
@@ -73,12 +74,12 @@ pub fn write_name(spellings: &mut [u8], a: usize, text: &[u8], table: &[u8], at:
         ≡ put (a * nameBytes) (padded (wordAt (letters (now (table .entry))) (now (text .entry)) at len)) (now (spellings .entry)) ⌝ }
 {
     let row = Book::name_at(a);
+    clear_tail8(spellings, row, row + Book::NAME_BYTES);
     let mut i = 0;
     while i < len {
         spellings[row + i] = fold(table, text[at + i]);
         i += 1;
     }
-    clear_tail8(spellings, row + len, row + Book::NAME_BYTES);
 }
 
 // A new word becomes name n, and leads its bucket before the name that led it.

@@ -1,4 +1,4 @@
--- `lexicon::write_name` meets its contract. The loop's invariant: the bytes passed are the word's, the rest is as it was. Assumes nothing.
+-- `lexicon::write_name` meets its contract. The loop's invariant: the bytes passed are the word's, the rest of the row is clear. Assumes nothing.
 use Prim.Native.Nat.{_-_, _≤_}
 use mathlib.Core.Path.{_≡_}
 use lib.ListN.{length}
@@ -20,18 +20,19 @@ abbrev μ-loop : tie.MeasureT-loop
 
 loop-holds : tie.Need-loop-holds Inv-loop μ-loop
 loop-holds c =
-    let s = c .before .before .before .before in
+    let at-name = c .before .before .before .before in
+    let s = at-name .before .before .before .before in
     let a = s .args in (
       search needs,
       name-fits _ (s .pre .3 .1) _ _ _ (s .pre .2),
       search needs,
-      paste-zero (a .spellings .now) (c .name-at .result) (wordAt (letters (a .table .now)) (a .text .now) (a .at) (a .len)),
+      paste-zero (c .before .before .clear-tail8 .last .0) (at-name .name-at .result) (wordAt (letters (a .table .now)) (a .text .now) (a .at) (a .len)),
     )
 
 loop-again : tie.Need-loop-again Inv-loop μ-loop
 loop-again c =
     let l = c .before .before .before in
-    let p = l .before .before .before .before .before .pre in (
+    let p = l .before .before .before .before .before .before .before .before .before .pre in (
       search needs,
       search needs,
       search needs,
@@ -40,10 +41,11 @@ loop-again c =
 
 returns : tie.Need-returns Inv-loop μ-loop
 returns c =
-    let l = c .before .before .before .before .before in
-    let p = l .before .before .before .before .before .pre in
-    write-all _ (p .3 .1) _ _ _ _ _ (p .2) (search needs) _ _ _ _ (l .before .name-at .ensures) (l .loop .inv .0) (c .before .before .before .before .loop-test .left)
-    (l .loop .inv .3) (c .before .before .clear-tail8 .ensures)
+    let l = c .before in
+    let at-name = l .before .before .before .before .before in
+    let p = at-name .before .before .before .before .pre in
+    write-all _ (p .3 .1) _ _ _ _ _ (p .2) (search needs) _ _ _ _ (at-name .name-at .ensures) (l .before .before .before .clear-tail8 .ensures)
+    (l .loop .inv .0) (c .loop-test .left) (l .loop .inv .3)
 
 pub write-name-spec : {M : Type 1} → statement M
 write-name-spec =
@@ -51,6 +53,8 @@ write-name-spec =
     (tie.spec
     Inv-loop
     μ-loop
+    (λ c κs. search needs)
+    (λ c. search needs)
     (λ c κs. search needs)
     loop-holds
     (λ c. search needs)
@@ -61,8 +65,5 @@ write-name-spec =
     (λ c. search needs)
     (λ c. search needs)
     loop-again
-    (λ c. search needs)
-    (λ c. search needs)
-    (λ c κs. search needs)
     (λ c. search needs)
     returns)
