@@ -114,7 +114,7 @@ module _ (fold : ℕ → ℕ) (t : Bytes) (at line : ℕ) (x y : Tables) (g : Go
     pub going-line : line ≤ at
     going-line = omega (arith, g .behind)
 
-    module _ (cause to next : ℕ) (w : Tables) (s : Stepped fold (g .cs) t at line cause to next w) where
+    module _ (cause to next : ℕ) (w : Tables) (s : Stepped (g .cs) (formAt fold t at) (pastAt notEnd t at) line cause to next w) where
       -- it is refused
       pub going-stop : (cause ≡ 0 → ⊥) → (z : Tables) → z .lexicon .count ≡ 0 → z .count ≡ 0 → Lined fold t cause line z
       going-stop n z p q =

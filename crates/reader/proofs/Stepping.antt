@@ -11,30 +11,37 @@ use lib.ListN.{length, take, drop, set, length-append, length-map, length-set}
 use lib.Seq.{set-split, drop-set-lt}
 use borrow.Author.Tests.{leb-true, leb-false}
 use Rattle.limits.specs.Book.{textBytes, names, rules, nameArea, bodyWords, bodyArea}
-use Rattle.words.specs.Row.{pack, put}
-use Rattle.words.proofs.Rows.{length-pack}
-use Rattle.words.proofs.Areas.{length-put, put-past}
+use Rattle.words.specs.Row.{pack, part, put}
+use Rattle.words.proofs.Areas.{length-part, put-past}
 use Rattle.program.specs.Program.{Rule}
 use Rattle.grammar.specs.Bytes.{Bytes, Folding, Among, notEnd, hash, lineEnd}
 use Rattle.grammar.specs.Grammar.{Clause, Form, silent, rule, fault}
 use Rattle.grammar.specs.Lines.{starts}
-use Rattle.grammar.proofs.Theorems.{classified}
 use Rattle.scan.specs.Places.{pastAt}
 use Rattle.tables.specs.Numbering.{place, places, namesOf, numbered}
 use Rattle.tables.specs.Reading.{lineCause, taken}
 use Rattle.tables.specs.Areas.{headRows, bodyRows}
 use Rattle.tables.specs.Begun.{begun}
 use Rattle.tables.proofs.Numbering.{meets-met, names-more, numbered-more, heads-append, bodies-append, heads-length, bodies-length}
-use Rattle.tables.proofs.Loop.{cause-rules, cause-names, cause-none, nonzero-fault}
+use Rattle.tables.proofs.Loop.{cause-rules, cause-names, cause-none}
 use Rattle.tables.proofs.Encoding.{put-begun}
-use Rattle.clause.specs.Line.{LineEnds, lineAt, formFrom, unblank, faultOf}
+use Rattle.clause.specs.Line.{LineEnds, formFrom, unblank, faultOf}
 use Rattle.clause.proofs.Forms.{closed-unblank, end-unblank}
 use Rattle.clause.proofs.Places.{end-here, in-text}
 use Rattle.clause.specs.Found.{Kept, Lexicon, namesAt, Named, InOrder, Ruled, Said, namesWith}
 use Rattle.clause.proofs.Rows.{kept-same}
 use Rattle.clause.proofs.Meeting.{begun-again}
-use Rattle.reader.specs.State.{Tables, Booked, Stayed, Stepped, formAt}
-use Rattle.reader.proofs.Silent.{headed, headed-end, not-silent}
+use Rattle.reader.specs.declared.Step.{Step}
+use Rattle.reader.specs.State.{Tables, tablesAt, Booked, Stayed, Stepped, formAt}
+use Rattle.reader.proofs.Silent.{Loud, headed, headed-end, head-loud}
+
+-- what a line of that form is answered and leaves: the areas kept past their sizes, and its step
+abbrev pub Answered : Form → ℕ → ℕ → Tables → Bytes → List ℕ → List ℕ → List ℕ → List ℕ → Step → Type 0
+Answered form end line x area first prior heads bodies r =
+    Stayed x (tablesAt (r .after .names) (r .after .rules) area first prior heads bodies)
+    × ((cs : List Clause) → Booked cs x
+    → Stepped cs form end line (r .cause) (r .after .cursor .at) (r .after .cursor .line)
+    (tablesAt (r .after .names) (r .after .rules) area first prior heads bodies))
 
 -- nothing changed
 pub stayed-same : (x : Tables) → Stayed x x
@@ -43,15 +50,6 @@ stayed-same x =
       kept = kept-same nameArea (x .lexicon .area);
       head-kept = kept-same rules (x .heads);
       body-kept = kept-same bodyArea (x .bodies);
-    }
-
--- only the names changed, up to their stated size
-pub stayed-names : (x y : Tables) → Kept nameArea (x .lexicon .area) (y .lexicon .area) → x .heads ≡ y .heads → x .bodies ≡ y .bodies → Stayed x y
-stayed-names x y k h b =
-    record {
-      kept = k;
-      head-kept = subst (Kept rules (x .heads)) h (kept-same rules (x .heads));
-      body-kept = subst (Kept bodyArea (x .bodies)) b (kept-same bodyArea (x .bodies));
     }
 
 -- what a rule is found by
@@ -65,10 +63,10 @@ unfolding notEnd
 end-room t i line end next k l b e q = (omega (arith, in-text t i k notEnd refl), omega (arith, in-text t i k notEnd refl))
 
 -- a line that says nothing
-pub stepped-silent : (fold : ℕ → ℕ) (cs : List Clause) (t : Bytes) (i line at next : ℕ) (x : Tables) → formAt fold t i ≡ silent
-    → at ≡ pastAt notEnd t i + 1 → next ≡ line + 1 → Booked cs x → Stepped fold cs t i line 0 at next x
+pub stepped-silent : (cs : List Clause) (form : Form) (end line at next : ℕ) (x : Tables) → form ≡ silent
+    → at ≡ end + 1 → next ≡ line + 1 → Booked cs x → Stepped cs form end line 0 at next x
 unfolding lineCause taken
-stepped-silent fold cs t i line at next x e q p b =
+stepped-silent cs form end line at next x e q p b =
     record {
       judged = sym (ap (lineCause cs) e);
       ends = λ z. q;
@@ -77,9 +75,9 @@ stepped-silent fold cs t i line at next x e q p b =
     }
 
 -- a line with a cause
-stepped-refused : (fold : ℕ → ℕ) (cs : List Clause) (t : Bytes) (i line cause at next : ℕ) (y : Tables) → cause ≡ lineCause cs (formAt fold t i)
-    → (cause ≡ 0 → ⊥) → Stepped fold cs t i line cause at next y
-stepped-refused fold cs t i line cause at next y e l =
+stepped-refused : (cs : List Clause) (form : Form) (end line cause at next : ℕ) (y : Tables) → cause ≡ lineCause cs form
+    → (cause ≡ 0 → ⊥) → Stepped cs form end line cause at next y
+stepped-refused cs form end line cause at next y e l =
     record { judged = e; ends = λ z. absurd (l z); counts = λ z. absurd (l z); books = λ z. absurd (l z) }
 
 -- more rows after those begun
@@ -121,6 +119,14 @@ first-among : (x : Bytes) (xs : List Bytes) → Among x (x ∷ xs)
 unfolding Among
 first-among x xs = inl refl
 
+-- a head set among the rules
+head-set : (x : Tables) (head : ℕ) → x .count < rules → (heads′ : List ℕ) → heads′ ≡ set (x .heads) (x .count) head → Kept rules (x .heads) heads′
+head-set x head l heads′ h =
+    record {
+      as-long = ap length h ∙ length-set (x .heads) (x .count) head;
+      past = ap (drop rules) h ∙ drop-set-lt rules (x .heads) (x .count) head l;
+    }
+
 -- The clause c after those of the tables x: the names with it in y, its head and its row.
 module _ (cs : List Clause) (c : Clause) (x : Tables) (b : Booked cs x) (room : Bool) (head : ℕ) (y : Lexicon) (row : List ℕ)
     (r : Ruled (namesAt (x .lexicon)) c room head y row) where
@@ -134,35 +140,15 @@ module _ (cs : List Clause) (c : Clause) (x : Tables) (b : Booked cs x) (room : 
   within : room ≡ true → length (namesOf (cs ++ (c ∷ []))) ≤ names
   within e = omega (arith, leb-true (length (namesWith (namesAt (x .lexicon)) c)) names (sym (r .fits) ∙ e), ap length more)
 
-  -- its head is a name's number, and its row a body's
+  -- its head is a name's number
   head-low : room ≡ true → head < names
   head-low e = omega (arith, r .head-is e, meets-met (namesAt (x .lexicon)) (c .head ∷ c .body) (c .head) (first-among (c .head) (c .body)), within e, ap length more)
 
-  row-long : room ≡ true → length row ≡ bodyWords
-  row-long e = ap length (r .body-is e) ∙ length-pack bodyWords (places (namesWith (namesAt (x .lexicon)) c) (c .body))
-
   -- the tables once it is entered
   module _ (l : x .count < rules) (e : room ≡ true) (heads′ bodies′ : List ℕ) (h : heads′ ≡ set (x .heads) (x .count) head)
-      (d : bodies′ ≡ put (x .count * bodyWords) row (x .bodies)) where
+      (as-long : length bodies′ ≡ length (x .bodies)) (d : bodies′ ≡ put (x .count * bodyWords) row (x .bodies)) where
     abbrev entered : Tables
     entered = record { lexicon = y; count = x .count + 1; heads = heads′; bodies = bodies′ }
-
-    row-in : x .count * bodyWords + length row ≤ length (x .bodies)
-    row-in = omega (arith, row-long e, b .bodies-long)
-
-    head-kept : Kept rules (x .heads) heads′
-    head-kept =
-        record {
-          as-long = ap length h ∙ length-set (x .heads) (x .count) head;
-          past = ap (drop rules) h ∙ drop-set-lt rules (x .heads) (x .count) head l;
-        }
-
-    body-kept : Kept bodyArea (x .bodies) bodies′
-    body-kept =
-        record {
-          as-long = ap length d ∙ length-put (x .count * bodyWords) row (x .bodies) row-in;
-          past = ap (drop bodyArea) d ∙ put-past (x .count * bodyWords) row (x .bodies) row-in bodyArea (omega (arith, row-long e));
-        }
 
     booked-more : Booked (cs ++ (c ∷ [])) entered
     booked-more =
@@ -181,8 +167,8 @@ module _ (cs : List Clause) (c : Clause) (x : Tables) (b : Booked cs x) (room : 
           named = subst (λ (ns : List Bytes). Named ns y) more (r .named e);
           count = omega (arith, b .count, length-append cs (c ∷ []));
           few = omega arith;
-          heads-long = omega (arith, head-kept .as-long, b .heads-long);
-          bodies-long = omega (arith, body-kept .as-long, b .bodies-long);
+          heads-long = omega (arith, head-set x head l heads′ h .as-long, b .heads-long);
+          bodies-long = omega (arith, as-long, b .bodies-long);
           head-rows =
               begun-more (headRows (rulesOf cs)) (place (namesOf (cs ++ (c ∷ []))) (c .head) ∷ []) (x .heads) heads′ (x .count) hl (b .head-rows) hr
               ∙ ap (λ (xs : List ℕ). begun xs heads′) (sym (heads-one cs c));
@@ -192,12 +178,12 @@ module _ (cs : List Clause) (c : Clause) (x : Tables) (b : Booked cs x) (room : 
               ∙ ap (λ (xs : List ℕ). begun xs bodies′) (sym (bodies-one cs c));
         }
 
--- a form without a fault is silent or a rule
-by-rule : {X : Type 0} (f : Form) → faultOf f ≡ 0 → (f ≡ silent → ⊥) → ((k : ℕ) → f ≡ fault k → k ≡ 0 → ⊥) → ((c : Clause) → f ≡ rule c → X) → X
+-- a form without a fault that says something is a rule
+by-rule : {X : Type 0} (f : Form) → faultOf f ≡ 0 → Loud f → ((c : Clause) → f ≡ rule c → X) → X
 unfolding faultOf
-by-rule silent e n z g = absurd (n refl)
-by-rule (rule c) e n z g = g c refl
-by-rule (fault k) e n z g = absurd (z k refl e)
+by-rule silent e l g = absurd (l .0 refl)
+by-rule (rule c) e l g = g c refl
+by-rule (fault k) e l g = absurd (l .1 (ap fault e))
 
 -- the cause of a form with a fault is the fault's number
 fault-cause : (f : Form) (cs : List Clause) → (faultOf f ≡ 0 → ⊥) → faultOf f ≡ lineCause cs f
@@ -206,98 +192,149 @@ fault-cause silent cs n = refl
 fault-cause (rule c) cs n = absurd (n refl)
 fault-cause (fault k) cs n = refl
 
--- The line at place i with number `line`, its head at place h.
-module _ (fold : ℕ → ℕ) (law : Folding fold) (t : Bytes) (i line h : ℕ) (k : LineEnds t i) (z : starts hash (drop i t) ≡ false) (q : h ≡ unblank t i) where
+-- A line at place i that is no remark, and its head at place h.
+pub record Headed (fold : ℕ → ℕ) (t : Bytes) (i h : ℕ) : Type 0 where
+  pub law : Folding fold
+  pub closed : LineEnds t i
+  pub plain : starts hash (drop i t) ≡ false
+  pub blanks : h ≡ unblank t i
+
+module _ {fold : ℕ → ℕ} {t : Bytes} {i h : ℕ} (k : Headed fold t i h) where
   pub head-closed : LineEnds t h
-  head-closed = subst (LineEnds t) (sym q) (closed-unblank fold law t i k)
+  head-closed = subst (LineEnds t) (sym (k .blanks)) (closed-unblank fold (k .law) t i (k .closed))
 
-  form-head : formAt fold t i ≡ formFrom fold t h
-  form-head = headed fold law t i k z ∙ ap (formFrom fold t) (sym q)
+  pub head-after : i ≤ h
+  head-after = omega (arith, k .blanks)
 
-  pub head-end : pastAt notEnd t h ≡ pastAt notEnd t i
-  head-end = ap (pastAt notEnd t) q ∙ end-unblank fold law t i k
+  form-head : formFrom fold t h ≡ formAt fold t i
+  form-head = sym (headed fold (k .law) t i (k .closed) (k .plain) ∙ ap (formFrom fold t) (sym (k .blanks)))
+
+  head-end : pastAt notEnd t h ≡ pastAt notEnd t i
+  head-end = ap (pastAt notEnd t) (k .blanks) ∙ end-unblank fold (k .law) t i (k .closed)
 
   -- nothing there
   pub blank-form : starts lineEnd (drop h t) ≡ true → formAt fold t i ≡ silent
-  blank-form e = form-head ∙ headed-end fold law t h head-closed e
+  blank-form e = sym form-head ∙ headed-end fold (k .law) t h head-closed e
 
   pub blank-end : starts lineEnd (drop h t) ≡ true → h ≡ pastAt notEnd t i
   blank-end e = end-here t h head-closed e ∙ head-end
 
-  -- a rule or a fault there, found after the clauses cs
-  module _ (e : starts lineEnd (drop h t) ≡ false) (x : Tables) (number at : ℕ) (room : Bool) (head : ℕ) (y : Lexicon) (row : List ℕ)
-      (s : Said fold t h (x .lexicon) number at room head y row) where
-    -- at fault
-    pub stepped-fault : (number ≡ 0 → ⊥) → (cs : List Clause) (at next : ℕ) (w : Tables) → Stepped fold cs t i line number at next w
-    stepped-fault o cs at next w =
-        stepped-refused fold cs t i line number at next w
-        (s .judged ∙ fault-cause (formFrom fold t h) cs (λ p. o (s .judged ∙ p)) ∙ ap (lineCause cs) (sym form-head)) o
+  -- what is known from the head on is known of the line
+  pub stepped-head : (cs : List Clause) (line there cause at next : ℕ) (y : Tables) → there ≡ line
+      → Stepped cs (formFrom fold t h) (pastAt notEnd t h) there cause at next y → Stepped cs (formAt fold t i) (pastAt notEnd t i) line cause at next y
+  stepped-head cs line there cause at next y e s =
+      record {
+        judged = s .judged ∙ ap (lineCause cs) form-head;
+        ends = λ z. s .ends z ∙ ap (λ (j : ℕ). j + 1) head-end;
+        counts = λ z. s .counts z ∙ ap (λ (j : ℕ). j + 1) e;
+        books = λ z. subst (λ (f : Form). Booked (taken cs f) y) form-head (s .books z);
+      }
 
-    module _ (o : number ≡ 0) where
-      -- a rule
-      saying : {X : Type 0} → ((c : Clause) → formFrom fold t h ≡ rule c → X) → X
-      saying g =
-          by-rule (formFrom fold t h) (sym (s .judged) ∙ o) (not-silent fold law t h head-closed e)
-          (λ j p. nonzero-fault fold (classified fold law) (lineAt t i) j (classified fold law .forms (lineAt t i) (fault j) .1 (form-head ∙ p))) g
+-- What is known behind the head at place h: what is said there, found with the names of the tables x and the row of their bodies from place r.
+pub record Behind (fold : ℕ → ℕ) (t : Bytes) (h : ℕ) (x : Tables) (r : ℕ) (bodies′ : List ℕ)
+    (number at : ℕ) (room : Bool) (head : ℕ) (y : Lexicon) : Type 0 where
+  pub law : Folding fold
+  pub closed : LineEnds t h
+  pub loud : starts lineEnd (drop h t) ≡ false
+  pub clauses : List Clause
+  pub booked : Booked clauses x
+  pub in-area : r + bodyWords ≤ bodyArea
+  pub own : x .count < rules → r ≡ x .count * bodyWords
+  pub as-long : length bodies′ ≡ length (x .bodies)
+  pub rows : bodies′ ≡ put r (part r bodyWords bodies′) (x .bodies)
+  pub said : Said fold t h (x .lexicon) number at room head y (part r bodyWords bodies′)
 
-      cause-of : (cs : List Clause) (c : Clause) → formFrom fold t h ≡ rule c → lineCause cs (rule c) ≡ lineCause cs (formAt fold t i)
-      cause-of cs c p = ap (lineCause cs) (sym (form-head ∙ p))
+module _ {fold : ℕ → ℕ} {t : Bytes} {h : ℕ} {x : Tables} {r : ℕ} {bodies′ : List ℕ} {number at : ℕ} {room : Bool} {head : ℕ} {y : Lexicon}
+    (k : Behind fold t h x r bodies′ number at room head y) (line : ℕ) where
+  row-in : r + length (part r bodyWords bodies′) ≤ bodyArea
+  row-in = omega (arith, k .in-area, length-part r bodyWords bodies′ (omega (arith, k .in-area, k .as-long, k .booked .bodies-long)))
 
-      -- the line's end
-      pub rule-end : at ≡ pastAt notEnd t i
-      rule-end = s .ends o ∙ head-end
+  bodies-kept : Kept bodyArea (x .bodies) bodies′
+  bodies-kept =
+      record {
+        as-long = k .as-long;
+        past =
+            ap (drop bodyArea) (k .rows)
+            ∙ put-past r (part r bodyWords bodies′) (x .bodies) (omega (arith, row-in, k .booked .bodies-long)) bodyArea row-in;
+      }
 
-      module _ (cs : List Clause) (b : Booked cs x) where
-        -- 256 rules are taken
-        pub stepped-full : x .count ≡ rules → (at next : ℕ) (w : Tables) → Stepped fold cs t i line 7 at next w
-        stepped-full l at next w =
+  -- a line that is refused leaves something in that row alone
+  pub stayed-refused : (n m : ℕ) → Stayed x (record { lexicon = record { count = n; area = y .area; first = y .first; prior = y .prior }; count = m; heads = x .heads; bodies = bodies′ })
+  stayed-refused n m = record { kept = k .said .kept; head-kept = kept-same rules (x .heads); body-kept = bodies-kept }
+
+  -- at fault
+  pub stepped-fault : (number ≡ 0 → ⊥) → (cs : List Clause) (at next : ℕ) (w : Tables)
+      → Stepped cs (formFrom fold t h) (pastAt notEnd t h) line number at next w
+  stepped-fault o cs at next w =
+      stepped-refused cs (formFrom fold t h) (pastAt notEnd t h) line number at next w
+      (k .said .judged ∙ fault-cause (formFrom fold t h) cs (λ p. o (k .said .judged ∙ p))) o
+
+  module _ (o : number ≡ 0) where
+    -- a rule
+    saying : {X : Type 0} → ((c : Clause) → formFrom fold t h ≡ rule c → X) → X
+    saying g = by-rule (formFrom fold t h) (sym (k .said .judged) ∙ o) (head-loud fold (k .law) t h (k .closed) (k .loud)) g
+
+    -- the line's end
+    pub rule-end : at ≡ pastAt notEnd t h
+    rule-end = k .said .ends o
+
+    -- 256 rules are taken
+    pub stepped-full : x .count ≡ rules → (cs : List Clause) → Booked cs x → (at next : ℕ) (w : Tables)
+        → Stepped cs (formFrom fold t h) (pastAt notEnd t h) line 7 at next w
+    stepped-full l cs b at next w =
+        saying
+        (λ c p.
+        stepped-refused cs (formFrom fold t h) (pastAt notEnd t h) line 7 at next w
+        (sym (cause-rules cs c (omega (arith, b .count))) ∙ ap (lineCause cs) (sym p)) (λ v. omega arith))
+
+    module _ (f : x .count ≡ rules → ⊥) where
+      below : x .count < rules
+      below = omega (arith, k .booked .few, f)
+
+      -- too many names
+      pub stepped-over : room ≡ false → (cs : List Clause) → Booked cs x → (at next : ℕ) (w : Tables)
+          → Stepped cs (formFrom fold t h) (pastAt notEnd t h) line 6 at next w
+      stepped-over q cs b at next w =
+          saying
+          (λ c p.
+          stepped-refused cs (formFrom fold t h) (pastAt notEnd t h) line 6 at next w
+          (sym (cause-names cs c (omega (arith, b .count, below)) (over cs c x b room head y (part r bodyWords bodies′) (k .said .says c p) q))
+          ∙ ap (lineCause cs) (sym p))
+          (λ v. omega arith))
+
+      module _ (q : room ≡ true) where
+        -- there is a place for its head, which is a name's number
+        pub entering : (x .count < length (x .heads)) × (head < names)
+        entering =
             saying
-            (λ c p.
-            stepped-refused fold cs t i line 7 at next w (sym (cause-rules cs c (omega (arith, b .count))) ∙ cause-of cs c p) (λ v. omega arith))
+            (λ c p. (omega (arith, below, k .booked .heads-long), head-low (k .clauses) c x (k .booked) room head y (part r bodyWords bodies′) (k .said .says c p) q))
 
-        module _ (f : x .count ≡ rules → ⊥) where
-          below : x .count < rules
-          below = omega (arith, b .few, f)
+        -- the tables with it
+        module _ (heads′ : List ℕ) (h′ : heads′ ≡ set (x .heads) (x .count) head) where
+          abbrev with-rule : Tables
+          with-rule = record { lexicon = y; count = x .count + 1; heads = heads′; bodies = bodies′ }
 
-          -- too many names
-          pub stepped-over : room ≡ false → (at next : ℕ) (w : Tables) → Stepped fold cs t i line 6 at next w
-          stepped-over r at next w =
+          row-own : bodies′ ≡ put (x .count * bodyWords) (part r bodyWords bodies′) (x .bodies)
+          row-own = k .rows ∙ ap (λ (j : ℕ). put j (part r bodyWords bodies′) (x .bodies)) (k .own below)
+
+          pub stayed-rule : Stayed x with-rule
+          stayed-rule = record { kept = k .said .kept; head-kept = head-set x head below heads′ h′; body-kept = bodies-kept }
+
+          pub stepped-rule : (cs : List Clause) → Booked cs x → (next to : ℕ) → to ≡ at + 1 → next ≡ line + 1
+              → Stepped cs (formFrom fold t h) (pastAt notEnd t h) line 0 to next with-rule
+          unfolding taken
+          stepped-rule cs b next to v w =
               saying
               (λ c p.
-              stepped-refused fold cs t i line 6 at next w
-              (sym (cause-names cs c (omega (arith, b .count, below)) (over cs c x b room head y row (s .says c p) r)) ∙ cause-of cs c p)
-              (λ v. omega arith))
-
-          module _ (r : room ≡ true) where
-            -- what entering it needs
-            pub entering : (x .count < rules) × ((length row ≡ bodyWords) × (head < names))
-            entering = saying (λ c p. (below, (row-long cs c x b room head y row (s .says c p) r, head-low cs c x b room head y row (s .says c p) r)))
-
-            -- and leaves
-            module _ (heads′ bodies′ : List ℕ) (h′ : heads′ ≡ set (x .heads) (x .count) head)
-                (d : bodies′ ≡ put (x .count * bodyWords) row (x .bodies)) where
-              pub stayed-rule : Stayed x (record { lexicon = y; count = x .count + 1; heads = heads′; bodies = bodies′ })
-              stayed-rule =
-                  saying
-                  (λ c p. record {
-                    kept = s .kept;
-                    head-kept = head-kept cs c x b room head y row (s .says c p) below r heads′ bodies′ h′ d;
-                    body-kept = body-kept cs c x b room head y row (s .says c p) below r heads′ bodies′ h′ d;
-                  })
-
-              pub stepped-rule : (next to : ℕ) → to ≡ at + 1 → next ≡ line + 1
-                  → Stepped fold cs t i line 0 to next (record { lexicon = y; count = x .count + 1; heads = heads′; bodies = bodies′ })
-              unfolding taken
-              stepped-rule next to v w =
-                  saying
-                  (λ c p.
-                  record {
-                    judged =
-                        sym (cause-none cs c (omega (arith, b .count, below)) (within cs c x b room head y row (s .says c p) r)) ∙ cause-of cs c p;
-                    ends = λ u. v ∙ ap (λ (j : ℕ). j + 1) rule-end;
-                    counts = λ u. w;
-                    books =
-                        λ u.
-                        subst (λ (g : Form). Booked (taken cs g) (record { lexicon = y; count = x .count + 1; heads = heads′; bodies = bodies′ }))
-                        (sym (form-head ∙ p)) (booked-more cs c x b room head y row (s .says c p) below r heads′ bodies′ h′ d);
-                  })
+              let d : Ruled (namesAt (x .lexicon)) c room head y (part r bodyWords bodies′) = k .said .says c p in
+              record {
+                judged =
+                    sym (cause-none cs c (omega (arith, b .count, below)) (within cs c x b room head y (part r bodyWords bodies′) d q))
+                    ∙ ap (lineCause cs) (sym p);
+                ends = λ z. v ∙ ap (λ (j : ℕ). j + 1) rule-end;
+                counts = λ z. w;
+                books =
+                    λ z.
+                    subst (λ (g : Form). Booked (taken cs g) with-rule) (sym p)
+                    (booked-more cs c x b room head y (part r bodyWords bodies′) d below q heads′ bodies′ h′ (k .as-long) row-own);
+              })

@@ -5,10 +5,9 @@ use mathlib.Core.List.{List, [], map}
 use Prim.Native.Nat.{ℕ, _+_, _≤_}
 use lib.ListN.{length, drop}
 use Rattle.limits.specs.Book.{rules, nameArea, bodyArea}
-use Rattle.grammar.specs.Bytes.{Bytes, notEnd}
+use Rattle.grammar.specs.Bytes.{Bytes}
 use Rattle.grammar.specs.Grammar.{Clause, Form, mark}
 use Rattle.grammar.specs.Lines.{lines, formOf}
-use Rattle.scan.specs.Places.{pastAt}
 use Rattle.tables.specs.Numbering.{namesOf, numbered}
 use Rattle.tables.specs.Reading.{Reading, read, refused, lineCause, taken, readLines}
 use Rattle.tables.specs.Areas.{headRows, bodyRows}
@@ -47,13 +46,13 @@ pub record Stayed (x y : Tables) : Type 0 where
   pub head-kept : Kept rules (x .heads) (y .heads)
   pub body-kept : Kept bodyArea (x .bodies) (y .bodies)
 
--- what the line at place i leaves after the clauses cs: its cause, and where that is 0 the place and the line number behind it and the
--- tables with it
-pub record Stepped (fold : ℕ → ℕ) (cs : List Clause) (t : Bytes) (i line cause at next : ℕ) (y : Tables) : Type 0 where
-  pub judged : cause ≡ lineCause cs (formAt fold t i)
-  pub ends : cause ≡ 0 → at ≡ pastAt notEnd t i + 1
+-- what a line of that form with its end at that place leaves after the clauses cs: its cause, and where that is 0 the place and the line
+-- number behind it and the tables with it
+pub record Stepped (cs : List Clause) (form : Form) (end line cause at next : ℕ) (y : Tables) : Type 0 where
+  pub judged : cause ≡ lineCause cs form
+  pub ends : cause ≡ 0 → at ≡ end + 1
   pub counts : cause ≡ 0 → next ≡ line + 1
-  pub books : cause ≡ 0 → Booked (taken cs (formAt fold t i)) y
+  pub books : cause ≡ 0 → Booked (taken cs form) y
 
 -- what the lines of a text come to
 abbrev pub allLines : (ℕ → ℕ) → Bytes → Reading

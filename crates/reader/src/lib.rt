@@ -1,29 +1,32 @@
 // The public call that reads a book into its tables, in one pass over the text.
+use clause::Found;
 use clause::rule;
 use limits::Book;
 use limits::Refusal;
 use rows::clear::clear_tail8;
 use rows::clear::clear_tail16;
 use rows::clear::clear_tail64;
-use rows::write::copy;
 use scan::cursor::Cursor;
 use scan::cursor::Word;
 use scan::table::folding;
 ghost use mathlib.Core.Path.{_≡_};
-ghost use mathlib.Core.Bool.{true};
+ghost use mathlib.Core.Bool.{true, false};
 ghost use mathlib.Core.List.{List, []};
 ghost use Prim.Native.Nat.{_+_, _*_, _<_, _≤_};
-ghost use lib.ListN.{length, set};
+ghost use lib.ListN.{length, drop};
 ghost use Rattle.limits.specs.Book.{textBytes, names, nameBytes, rules, bodyWords, nameArea, bodyArea};
-ghost use Rattle.words.specs.Row.{put};
+ghost use Rattle.words.specs.Row.{part, put};
 ghost use Rattle.rows.specs.Clear.{cleared};
-ghost use Rattle.grammar.specs.Bytes.{ourLetters, letters};
+ghost use Rattle.grammar.specs.Bytes.{lineEnd, notEnd, ourLetters, letters};
 ghost use Rattle.grammar.specs.Grammar.{Clause};
+ghost use Rattle.grammar.specs.Lines.{starts};
 ghost use Rattle.scan.specs.Fold.{FoldTable};
+ghost use Rattle.scan.specs.Places.{pastAt};
 ghost use Rattle.tables.specs.Reading.{marked, ended, bookOf};
 ghost use Rattle.tables.specs.Areas.{outcome, readCall};
-ghost use Rattle.clause.specs.Line.{LineEnds};
-ghost use Rattle.reader.specs.State.{tablesAt, Booked, Stayed, Stepped, Lined};
+ghost use Rattle.clause.specs.Line.{LineEnds, formFrom};
+ghost use Rattle.clause.specs.Found.{lexiconOf, InOrder, Said};
+ghost use Rattle.reader.specs.State.{formAt, tablesAt, Booked, Stayed, Stepped, Lined};
 
 // What a call returns: the number of the refusal with its line, 0 for none, and how many names and rules there are.
 pub struct Answer {
@@ -75,19 +78,110 @@ struct Step {
     pub after: Reading,
 }
 
-// Head and row become rule m.
-fn enter(heads: &mut [u16], bodies: &mut [u64], m: usize, head: usize, row: &[u64])
-    requires { ⌜ (m < rules) × (rules ≤ length (now heads)) × (bodyArea ≤ length (now bodies)) ⌝ }
-    requires { ⌜ (length (now row) ≡ bodyWords) × (head < names) ⌝ }
-    ensures head { λ r. ⌜ now (heads .exit) ≡ set (now (heads .entry)) m head ⌝ }
-    ensures body { λ r. ⌜ now (bodies .exit) ≡ put (m * bodyWords) (now (row .entry)) (now (bodies .entry)) ⌝ }
+// Where the body of the rule after the first m is found: in its own row. A full table lends its last row, since the line is refused then, and
+// a refusal clears all rules.
+fn row_after(m: usize) -> usize
+    requires { ⌜ m ≤ rules ⌝ }
+    ensures within { λ r. ⌜ r + bodyWords ≤ bodyArea ⌝ }
+    ensures own { λ r. ⌜ (m < rules → r ≡ m * bodyWords) ⌝ }
 {
-    heads[m] = head as u16;
-    copy(bodies, Book::body_at(m), row, 0, Book::BODY_WORDS);
+    if m < Book::RULES {
+        return Book::body_at(m);
+    }
+    Book::body_at(Book::RULES - 1)
+}
+
+// The rule from its head at the cursor to the line's end, its body in the row from place `at`, which is cleared for it. That row is lent as it
+// lies, since a row of one's own would have to be copied as soon as it is written.
+fn rule_at(
+    text: &[u8],
+    table: &[u8],
+    cursor: Cursor,
+    spellings: &mut [u8],
+    first: &mut [u16],
+    prior: &mut [u16],
+    bodies: &mut [u64],
+    at: usize,
+    n: usize,
+) -> Found
+    requires { ⌜ LineEnds (now text) (cursor .at) × (starts lineEnd (drop (cursor .at) (now text)) ≡ false) ⌝ }
+    requires { ⌜ FoldTable (now table) × (at + bodyWords ≤ length (now bodies)) ⌝ }
+    requires { ⌜ InOrder (lexiconOf n (now spellings) (now first) (now prior)) ⌝ }
+    ensures line { λ r. ⌜ r .cursor .line ≡ cursor .line ⌝ }
+    ensures row { λ r. ⌜ now (bodies .exit) ≡ put at (part at bodyWords (now (bodies .exit))) (now (bodies .entry)) ⌝ }
+    ensures said { λ r. ⌜ Said (letters (now (table .entry))) (now (text .entry)) (cursor .at)
+        (lexiconOf n (now (spellings .entry)) (now (first .entry)) (now (prior .entry)))
+        (r .fault) (r .cursor .at) (r .room) (r .head)
+        (lexiconOf (r .names) (now (spellings .exit)) (now (first .exit)) (now (prior .exit)))
+        (part at bodyWords (now (bodies .exit))) ⌝ }
+{
+    clear_tail64(bodies, at, at + Book::BODY_WORDS);
+    rule(
+        text,
+        table,
+        cursor,
+        spellings,
+        first,
+        prior,
+        &mut bodies[at..at + Book::BODY_WORDS],
+        n,
+    )
 }
 
 impl Reading {
-    // The line at the cursor: its fault comes before 7, and 7 before 6. Only a rule that is not refused is entered.
+    // The line whose head is at the cursor: its fault comes before 7, and 7 before 6. Only a rule that is not refused is counted.
+    fn rule(
+        self,
+        head: Cursor,
+        text: &[u8],
+        table: &[u8],
+        spellings: &mut [u8],
+        first: &mut [u16],
+        prior: &mut [u16],
+        heads: &mut [u16],
+        bodies: &mut [u64],
+    ) -> Step
+        requires { ⌜ LineEnds (now text) (head .at) × (starts lineEnd (drop (head .at) (now text)) ≡ false) ⌝ }
+        requires { ⌜ (length (now text) ≤ textBytes) × (head .line ≤ head .at) × FoldTable (now table) ⌝ }
+        requires { ⌜ ((cs : List Clause)
+            × Booked cs (tablesAt (self .names) (self .rules) (now spellings) (now first) (now prior) (now heads) (now bodies))) ⌝ }
+        ensures stays { λ r. ⌜ Stayed
+            (tablesAt (self .names) (self .rules) (now (spellings .entry)) (now (first .entry)) (now (prior .entry)) (now (heads .entry)) (now (bodies .entry)))
+            (tablesAt (r .after .names) (r .after .rules) (now (spellings .exit)) (now (first .exit)) (now (prior .exit)) (now (heads .exit)) (now (bodies .exit))) ⌝ }
+        ensures steps { λ r. ⌜ ((cs : List Clause)
+            → Booked cs
+            (tablesAt (self .names) (self .rules) (now (spellings .entry)) (now (first .entry)) (now (prior .entry)) (now (heads .entry)) (now (bodies .entry)))
+            → Stepped cs (formFrom (letters (now (table .entry))) (now (text .entry)) (head .at)) (pastAt notEnd (now (text .entry)) (head .at))
+            (head .line) (r .cause) (r .after .cursor .at) (r .after .cursor .line)
+            (tablesAt (r .after .names) (r .after .rules) (now (spellings .exit)) (now (first .exit)) (now (prior .exit)) (now (heads .exit)) (now (bodies .exit)))) ⌝ }
+    {
+        let m = self.rules;
+        let at = row_after(m);
+        let found = rule_at(
+            text,
+            table,
+            head,
+            spellings,
+            first,
+            prior,
+            bodies,
+            at,
+            self.names,
+        );
+        if found.fault != 0 {
+            return before(found.fault, self);
+        }
+        if m == Book::RULES {
+            return before(Refusal::RULES, self);
+        }
+        if !found.room {
+            return before(Refusal::NAMES, self);
+        }
+        heads[m] = found.head as u16;
+        behind(found.cursor, found.names, m + 1)
+    }
+
+    // The line at the cursor.
     fn line(
         self,
         text: &[u8],
@@ -108,33 +202,20 @@ impl Reading {
         ensures steps { λ r. ⌜ ((cs : List Clause)
             → Booked cs
             (tablesAt (self .names) (self .rules) (now (spellings .entry)) (now (first .entry)) (now (prior .entry)) (now (heads .entry)) (now (bodies .entry)))
-            → Stepped (letters (now (table .entry))) cs (now (text .entry)) (self .cursor .at) (self .cursor .line)
+            → Stepped cs (formAt (letters (now (table .entry))) (now (text .entry)) (self .cursor .at))
+            (pastAt notEnd (now (text .entry)) (self .cursor .at)) (self .cursor .line)
             (r .cause) (r .after .cursor .at) (r .after .cursor .line)
             (tablesAt (r .after .names) (r .after .rules) (now (spellings .exit)) (now (first .exit)) (now (prior .exit)) (now (heads .exit)) (now (bodies .exit)))) ⌝ }
     {
         let cursor = self.cursor;
-        let n = self.names;
-        let m = self.rules;
         if cursor.sees(text, Cursor::HASH) {
-            return behind(cursor.past_line(text), n, m);
+            return behind(cursor.past_line(text), self.names, self.rules);
         }
         let head = cursor.past_blanks(text);
         if head.sees(text, Cursor::LINE_END) {
-            return behind(head, n, m);
+            return behind(head, self.names, self.rules);
         }
-        let mut row = [0u64; Book::BODY_WORDS];
-        let found = rule(text, table, head, spellings, first, prior, &mut row, n);
-        if found.fault != 0 {
-            return before(found.fault, self);
-        }
-        if m == Book::RULES {
-            return before(Refusal::RULES, self);
-        }
-        if !found.room {
-            return before(Refusal::NAMES, self);
-        }
-        enter(heads, bodies, m, found.head, &row);
-        behind(found.cursor, found.names, m + 1)
+        self.rule(head, text, table, spellings, first, prior, heads, bodies)
     }
 }
 
