@@ -7,7 +7,7 @@ use mathlib.Core.List.{List, [], _∷_, _++_}
 use Prim.Native.Nat.{ℕ, _≤_}
 use lib.Dec.{eqb, leb}
 use borrow.Author.Tests.{eqb-true, eq-eqb, leb-true}
-use Rattle.limits.specs.Cause.{OneOf, lineCauses, solveKeptCauses, atomCauses, solveCauses, writeCauses}
+use Rattle.limits.specs.Cause.{OneOf, lineCauses, solveKeptCauses, atomCauses, solveCauses, writeCauses, roundsCauses}
 
 -- both of two tests hold
 first : (a b : Bool) → a && b ≡ true → a ≡ true
@@ -110,7 +110,7 @@ solve-left k m kept line over =
     ⊎-elim (λ i. ⊎-elim kept line (one-split k solveKeptCauses lineCauses i)) (⊎-elim over (λ i. absurd i))
     (one-split k (solveKeptCauses ++ lineCauses) atomCauses m)
 
--- each number of document 01's table is the solver's or the writer's, but for 11, which only the rounds call gives
-pub numbers-listed : inside (1 ∷ 2 ∷ 3 ∷ 4 ∷ 5 ∷ 6 ∷ 7 ∷ 8 ∷ 9 ∷ 10 ∷ 12 ∷ []) (solveCauses ++ writeCauses) ≡ true
+-- each number of document 01's table is the solver's, the writer's or that of the rounds
+pub numbers-listed : inside (1 ∷ 2 ∷ 3 ∷ 4 ∷ 5 ∷ 6 ∷ 7 ∷ 8 ∷ 9 ∷ 10 ∷ 11 ∷ 12 ∷ []) (solveCauses ++ (writeCauses ++ roundsCauses)) ≡ true
 unfolding inside without
 numbers-listed = refl

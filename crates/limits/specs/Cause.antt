@@ -53,3 +53,19 @@ solveCauses = (solveKeptCauses ++ lineCauses) ++ atomCauses
 -- the writer's: an area too short, tables ill formed, a written text too long
 abbrev pub writeCauses : List ℕ
 writeCauses = 1 ∷ 10 ∷ 12 ∷ []
+
+-- standardising's: an area too short, tables ill formed, over 256 atoms
+abbrev pub standardCauses : List ℕ
+standardCauses = 1 ∷ 10 ∷ atomCauses
+
+-- folding's: an area too short, over 8 folds, rows ill formed
+abbrev pub foldCauses : List ℕ
+foldCauses = 1 ∷ 9 ∷ 10 ∷ []
+
+-- those of the rounds: an area too short, rows ill formed, a start atom lost
+abbrev pub roundsCauses : List ℕ
+roundsCauses = 1 ∷ 10 ∷ 11 ∷ []
+
+-- the plain route's: an area too short, tables ill formed
+abbrev pub plainCauses : List ℕ
+plainCauses = 1 ∷ 10 ∷ []

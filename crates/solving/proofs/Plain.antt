@@ -1,7 +1,7 @@
 -- The plain route's call: each way out of it, and what document 01 asks of it.
 -- Assumes nothing.
 use mathlib.Core.Path.{_≡_, refl, sym, _∙_, subst}
-use mathlib.Core.Logic.{_↔_}
+use mathlib.Core.Logic.{_↔_, inl, inr}
 use mathlib.Core.Bool.{true, false}
 use mathlib.Core.List.{List}
 use Prim.Native.Nat.{ℕ, suc, _*_, _≤_, _<_}
@@ -10,6 +10,8 @@ use lib.Dec.{ltb}
 use borrow.Author.Tests.{eqb-false, ltb-false, le-ltb}
 use lib.ListN.{length}
 use Rattle.limits.specs.Book.{wordBits, rowWords}
+use Rattle.limits.specs.Cause.{OneOf, plainCauses}
+use Rattle.limits.proofs.Causes.{without, one-found}
 use Rattle.sets.specs.Set.{Same, pick, emptySet}
 use Rattle.sets.specs.Steps.{First}
 use Rattle.sets.proofs.Logic.{either, clash, or-none, pick-true, pick-false, holds, fails}
@@ -78,12 +80,13 @@ module _ (tables : RuleTables) (counts : Counts) (model : List ℕ) where
   -- a refusal with its number k
   refused : (k : ℕ) → (k ≡ 0 → ⊥) → ((k ≡ 1) ↔ (PlainLong tables model → ⊥))
       → ((k ≡ 10) ↔ (PlainLong tables model × (StandardFormed tables counts → ⊥)))
-      → (PlainLong tables model → StandardFormed tables counts → ⊥)
+      → (PlainLong tables model → StandardFormed tables counts → ⊥) → OneOf k plainCauses
       → PlainCalls tables counts model p (plainRefusal k model)
-  refused k z short ill none = record {
+  refused k z short ill none one = record {
     accepts = fails z (λ q. none (q .0) (q .1));
     short = short;
     ill = ill;
+    no-other = inr one;
     kept = λ h. (refl, refl, refl);
     holds = λ h. absurd (z h);
     past = λ h. absurd (z h);
@@ -94,16 +97,20 @@ module _ (tables : RuleTables) (counts : Counts) (model : List ℕ) where
   }
 
   claim-short : shortPlain tables model ≡ true → PlainCalls tables counts model p (plainRefusal 1 model)
+  unfolding without
   claim-short e =
       let none : PlainLong tables model → ⊥ = λ long. clash e (long-plain tables model long) in
       refused 1 (eqb-false 1 0 refl) (holds refl none) (fails (eqb-false 1 10 refl) (λ q. none (q .0))) (λ long formed. none long)
+      (one-found 1 1 plainCauses refl refl)
 
   claim-ill : shortPlain tables model ≡ false → formedTables tables counts ≡ false
       → PlainCalls tables counts model p (plainRefusal 10 model)
+  unfolding without
   claim-ill e f =
       let long : PlainLong tables model = plain-long tables model e in
       let none : StandardFormed tables counts → ⊥ = λ g. clash (tables-formed tables counts g) f in
       refused 10 (eqb-false 10 0 refl) (fails (eqb-false 10 1 refl) (λ h. h long)) (holds refl (long, none)) (λ long formed. none formed)
+      (one-found 10 10 plainCauses refl refl)
 
   -- the set in the model area is the one that the plain route reaches
   module _ (f : formedTables tables counts ≡ true) where
@@ -133,6 +140,7 @@ module _ (tables : RuleTables) (counts : Counts) (model : List ℕ) where
           accepts = holds refl (long, formed);
           short = fails (eqb-false 0 1 refl) (λ h. h long);
           ill = fails (eqb-false 0 10 refl) (λ q. q .1 formed);
+          no-other = inl refl;
           kept = λ h. absurd (h refl);
           holds = λ h. held-every;
           past = λ h. model-below-past n (plainHeld p) model;

@@ -1,12 +1,13 @@
 -- What is claimed of the plain route: demands 1 and 3. Proved in proofs/Plain.antt and proofs/Holds.antt.
 -- Assumes nothing.
 use mathlib.Core.Path.{_≡_}
-use mathlib.Core.Logic.{_↔_}
+use mathlib.Core.Logic.{_↔_, _⊎_}
 use mathlib.Core.Bool.{true, false}
 use mathlib.Core.List.{List}
 use Prim.Native.Nat.{ℕ, suc, _+_, _≤_, _<_}
 use lib.ListN.{length, drop}
 use Rattle.limits.specs.Book.{rowWords}
+use Rattle.limits.specs.Cause.{OneOf, plainCauses}
 use Rattle.sets.specs.Set.{count, emptySet}
 use Rattle.sets.specs.Steps.{First}
 use Rattle.program.specs.Program.{Program, InEveryModel, consequence}
@@ -27,6 +28,8 @@ pub record PlainCalls (tables : RuleTables) (counts : Counts) (model : List ℕ)
   pub accepts : (r .number ≡ 0) ↔ (PlainLong tables model × StandardFormed tables counts)
   pub short : (r .number ≡ 1) ↔ (PlainLong tables model → ⊥)
   pub ill : (r .number ≡ 10) ↔ (PlainLong tables model × (StandardFormed tables counts → ⊥))
+  -- 0 and these are all its numbers
+  pub no-other : (r .number ≡ 0) ⊎ OneOf (r .number) plainCauses
   pub kept : (r .number ≡ 0 → ⊥) → (r .held ≡ 0) × (r .rounds ≡ 0) × (r .model ≡ model)
   -- a name is held exactly where every model has it; nothing from the names on; what lies past the four words is as it was
   pub holds : r .number ≡ 0 → (a : ℕ) → a < counts .names → (modelIn (r .model) a ≡ true) ↔ InEveryModel p a

@@ -1,6 +1,7 @@
 -- The fold call: each way out of it, and what document 01 asks of it.
 -- Assumes nothing.
 use mathlib.Core.Path.{_≡_, refl, sym, ap, _∙_, subst}
+use mathlib.Core.Logic.{inl, inr}
 use mathlib.Core.Bool.{true, false}
 use mathlib.Core.List.{List, []}
 use Prim.Native.Nat.{ℕ, _*_, _≤_, _<_}
@@ -9,6 +10,8 @@ use lib.Dec.{leb, ltb}
 use borrow.Author.Tests.{eqb-false, leb-true, le-leb, ltb-true, ltb-false, lt-ltb, le-ltb}
 use lib.ListN.{length}
 use Rattle.limits.specs.Book.{atoms, folds, wordBits, rowWords, rowArea}
+use Rattle.limits.specs.Cause.{foldCauses}
+use Rattle.limits.proofs.Causes.{without, one-found}
 use Rattle.sets.specs.Set.{Set, pick}
 use Rattle.sets.proofs.Logic.{either, clash, not-true, and-left, and-right, and-make, or-left, or-right, or-elim, holds, fails, pick-true, pick-false}
 use Rattle.program.specs.System.{rowsAfter}
@@ -106,6 +109,7 @@ module _ (all spare : List ℕ) (m k : ℕ) where
   -- The claim, at each way out.
 
   claim-short : shortRows all spare ≡ true → Folds all spare m k (foldRefusal 1 all spare)
+  unfolding without
   claim-short e =
       let none : FoldLong all spare → ⊥ = rows-short all spare e in
       record {
@@ -113,12 +117,14 @@ module _ (all spare : List ℕ) (m k : ℕ) where
         short = holds refl none;
         over = fails (eqb-false 1 9 refl) (λ q. none (q .0));
         ill = fails (eqb-false 1 10 refl) (λ q. none (q .0));
+        no-other = inr (one-found 1 1 foldCauses refl refl);
         kept = λ h. (refl, refl);
         rows = λ h. absurd (eqb-false 1 0 refl h);
         zero-spare = λ h. absurd (eqb-false 1 0 refl h);
       }
 
   claim-over : shortRows all spare ≡ false → folds < k → Folds all spare m k (foldRefusal 9 all spare)
+  unfolding without
   claim-over e l =
       let long : FoldLong all spare = rows-long all spare e in
       let none : k ≤ folds → ⊥ = λ b. omega arith in
@@ -127,12 +133,14 @@ module _ (all spare : List ℕ) (m k : ℕ) where
         short = fails (eqb-false 9 1 refl) (λ h. h long);
         over = holds refl (long, l);
         ill = fails (eqb-false 9 10 refl) (λ q. none (q .1));
+        no-other = inr (one-found 9 9 foldCauses refl refl);
         kept = λ h. (refl, refl);
         rows = λ h. absurd (eqb-false 9 0 refl h);
         zero-spare = λ h. absurd (eqb-false 9 0 refl h);
       }
 
   claim-ill : shortRows all spare ≡ false → k ≤ folds → formedAll all m ≡ false → Folds all spare m k (foldRefusal 10 all spare)
+  unfolding without
   claim-ill e l f =
       let long : FoldLong all spare = rows-long all spare e in
       let none : FoldFormed all m → ⊥ = λ g. clash (formed-all all m g) f in
@@ -141,6 +149,7 @@ module _ (all spare : List ℕ) (m k : ℕ) where
         short = fails (eqb-false 10 1 refl) (λ h. h long);
         over = fails (eqb-false 10 9 refl) (λ q. let b : folds < k = q .1 in omega arith);
         ill = holds refl (long, l, none);
+        no-other = inr (one-found 10 10 foldCauses refl refl);
         kept = λ h. (refl, refl);
         rows = λ h. absurd (eqb-false 10 0 refl h);
         zero-spare = λ h. absurd (eqb-false 10 0 refl h);
@@ -155,6 +164,7 @@ module _ (all spare : List ℕ) (m k : ℕ) where
         short = fails (eqb-false 0 1 refl) (λ h. h long);
         over = fails (eqb-false 0 9 refl) (λ q. let b : folds < k = q .1 in omega arith);
         ill = fails (eqb-false 0 10 refl) (λ q. q .2 formed);
+        no-other = inl refl;
         kept = λ h. absurd (h refl);
         rows = λ h. folded-rows formed;
         zero-spare = λ h. filled-is rowArea [] spare;

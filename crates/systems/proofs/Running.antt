@@ -1,6 +1,7 @@
 -- The rounds call: the set in a model area, sets that end at a count, and each way out of the call.
 -- Assumes nothing.
 use mathlib.Core.Path.{_≡_, refl, sym, _∙_, subst, fun-ext}
+use mathlib.Core.Logic.{inl, inr}
 use mathlib.Core.Bool.{Bool, true, false, not, _&&_, _||_}
 use mathlib.Core.List.{List, _++_}
 use Prim.Native.Nat.{ℕ, _*_, _≤_, _<_}
@@ -9,6 +10,8 @@ use lib.Dec.{leb, ltb}
 use borrow.Author.Tests.{leb-true, le-leb, lt-ltb, le-ltb, ltb-true, ltb-false}
 use lib.ListN.{length, drop, replicate}
 use Rattle.limits.specs.Book.{atoms, wordBits, rowWords, rowArea}
+use Rattle.limits.specs.Cause.{roundsCauses}
+use Rattle.limits.proofs.Causes.{without, one-found}
 use Rattle.sets.specs.Set.{Set, Within, Same, pick, exists, within, same, emptySet, only, union}
 use Rattle.sets.specs.Steps.{Monotone, Least}
 use Rattle.sets.proofs.Logic.{either, clash, not-true, iff, and-left, and-right, and-make, or-left, or-right, of-not, not-of-false, pick-true, pick-false}
@@ -240,11 +243,13 @@ module _ (o : RowAreas) where
 
     -- the four ways out, each with what it is claimed to be
     way-short : (RoundsLong o → ⊥) → Runs o m s (roundsRefusal 1 model)
+    unfolding without
     way-short h = record {
       accepts = (λ q. absurd (omega arith), λ p. absurd (h (p .0)));
       short = (λ q. h, λ q. refl);
       ill = (λ q. absurd (omega arith), λ p. absurd (h (p .0)));
       lost = (λ q. absurd (omega arith), λ p. absurd (h (p .0)));
+      no-other = inr (one-found 1 1 roundsCauses refl refl);
       kept = λ q. (refl, refl);
       first = λ q. absurd (omega arith);
       bound = λ q. absurd (omega arith);
@@ -254,11 +259,13 @@ module _ (o : RowAreas) where
 
     module _ (long : RoundsLong o) where
       way-ill : (RoundsFormed o m → ⊥) → Runs o m s (roundsRefusal 10 model)
+      unfolding without
       way-ill h = record {
         accepts = (λ q. absurd (omega arith), λ p. absurd (h (p .1)));
         short = (λ q. absurd (omega arith), λ p. absurd (p long));
         ill = (λ q. (long, h), λ q. refl);
         lost = (λ q. absurd (omega arith), λ p. absurd (h (p .1)));
+        no-other = inr (one-found 10 10 roundsCauses refl refl);
         kept = λ q. (refl, refl);
         first = λ q. absurd (omega arith);
         bound = λ q. absurd (omega arith);
@@ -268,11 +275,13 @@ module _ (o : RowAreas) where
 
       module _ (formed : RoundsFormed o m) where
         way-lost : Lost s → Runs o m s (roundsRefusal 11 model)
+        unfolding without
         way-lost h = record {
           accepts = (λ q. absurd (omega arith), λ p. clash (p .2 (h .0) (h .1) (h .2)) (h .3));
           short = (λ q. absurd (omega arith), λ p. absurd (p long));
           ill = (λ q. absurd (omega arith), λ p. absurd (p .1 formed));
           lost = (λ q. (long, formed, h), λ q. refl);
+          no-other = inr (one-found 11 11 roundsCauses refl refl);
           kept = λ q. (refl, refl);
           first = λ q. absurd (omega arith);
           bound = λ q. absurd (omega arith);
@@ -291,6 +300,7 @@ module _ (o : RowAreas) where
               short = (λ q. absurd (omega arith), λ p. absurd (p long));
               ill = (λ q. absurd (omega arith), λ p. absurd (p .1 formed));
               lost = (λ q. absurd (omega arith), λ p. let d = p .2 in clash (w (d .0) (d .1) (d .2)) (d .3));
+              no-other = inl refl;
               kept = λ q. absurd (q refl);
               first = λ q. rounds-first m (round s) (s .start) (round-mono s) w;
               bound = λ q. rounds-few m (round s) (s .start) (round-mono s) w;

@@ -1,7 +1,7 @@
 -- The standardise call: each way out of it, and what document 01 asks of it.
 -- Assumes nothing.
 use mathlib.Core.Path.{_≡_, refl, sym, _∙_, subst}
-use mathlib.Core.Logic.{_↔_}
+use mathlib.Core.Logic.{_↔_, inl, inr}
 use mathlib.Core.Bool.{Bool, true, false, not}
 use mathlib.Core.List.{List}
 use Prim.Native.Nat.{ℕ, _*_, _≤_, _<_}
@@ -11,6 +11,8 @@ use lib.Dec.{ltb}
 use borrow.Author.Tests.{eqb-true, eqb-false, ltb-true, ltb-false, lt-ltb, le-ltb}
 use lib.ListN.{length}
 use Rattle.limits.specs.Book.{rules, atoms, wordBits, rowWords, bodyArea, rowArea}
+use Rattle.limits.specs.Cause.{OneOf, standardCauses}
+use Rattle.limits.proofs.Causes.{without, one-found}
 use Rattle.sets.specs.Set.{Set, pick, only, image}
 use Rattle.sets.proofs.Logic.{either, clash, not-true, or-none, pick-true, pick-false, holds, fails}
 use Rattle.sets.proofs.Tests.{exists-same}
@@ -196,13 +198,14 @@ module _ (tables : RuleTables) (counts : Counts) (o : RowAreas) where
   refused : (k : ℕ) → (k ≡ 0 → ⊥) → ((k ≡ 1) ↔ (StandardLong tables o → ⊥))
       → ((k ≡ 10) ↔ (StandardLong tables o × (StandardFormed tables counts → ⊥)))
       → ((k ≡ 8) ↔ (StandardLong tables o × StandardFormed tables counts × (atoms < standard p .atoms)))
-      → (StandardLong tables o → StandardFormed tables counts → standard p .atoms ≤ atoms → ⊥)
+      → (StandardLong tables o → StandardFormed tables counts → standard p .atoms ≤ atoms → ⊥) → OneOf k standardCauses
       → Standardises tables counts o p (standardRefusal k o)
-  refused k z short ill over none = record {
+  refused k z short ill over none one = record {
     accepts = fails z (λ q. none (q .0) (q .1) (q .2));
     short = short;
     ill = ill;
     over = over;
+    no-other = inr one;
     kept = λ h. (refl, refl, refl, refl);
     program = λ h. absurd (z h);
     count-atoms = λ h. absurd (z h);
@@ -217,26 +220,30 @@ module _ (tables : RuleTables) (counts : Counts) (o : RowAreas) where
   }
 
   claim-short : shortTables tables o ≡ true → Standardises tables counts o p (standardRefusal 1 o)
+  unfolding without
   claim-short e =
       let none : StandardLong tables o → ⊥ = λ long. clash e (long-tables tables o long) in
       refused 1 (eqb-false 1 0 refl) (holds refl none) (fails (eqb-false 1 10 refl) (λ q. none (q .0)))
-      (fails (eqb-false 1 8 refl) (λ q. none (q .0))) (λ long formed l. none long)
+      (fails (eqb-false 1 8 refl) (λ q. none (q .0))) (λ long formed l. none long) (one-found 1 1 standardCauses refl refl)
 
   claim-ill : shortTables tables o ≡ false → formedTables tables counts ≡ false
       → Standardises tables counts o p (standardRefusal 10 o)
+  unfolding without
   claim-ill e f =
       let long : StandardLong tables o = tables-long tables o e in
       let none : StandardFormed tables counts → ⊥ = λ g. clash (tables-formed tables counts g) f in
       refused 10 (eqb-false 10 0 refl) (fails (eqb-false 10 1 refl) (λ h. h long)) (holds refl (long, none))
-      (fails (eqb-false 10 8 refl) (λ q. none (q .1))) (λ long formed l. none formed)
+      (fails (eqb-false 10 8 refl) (λ q. none (q .1))) (λ long formed l. none formed) (one-found 10 10 standardCauses refl refl)
 
   claim-over : shortTables tables o ≡ false → formedTables tables counts ≡ true → atoms < standard p .atoms
       → Standardises tables counts o p (standardRefusal 8 o)
+  unfolding without
   claim-over e f l =
       let long : StandardLong tables o = tables-long tables o e in
       let formed : StandardFormed tables counts = formed-tables tables counts f in
       refused 8 (eqb-false 8 0 refl) (fails (eqb-false 8 1 refl) (λ h. h long))
       (fails (eqb-false 8 10 refl) (λ q. q .1 formed)) (holds refl (long, formed, l)) (λ long formed b. omega arith)
+      (one-found 8 8 standardCauses refl refl)
 
   claim-good : shortTables tables o ≡ false → formedTables tables counts ≡ true → standard p .atoms ≤ atoms
       → Standardises tables counts o p (standardWell p o)
@@ -249,6 +256,7 @@ module _ (tables : RuleTables) (counts : Counts) (o : RowAreas) where
         short = fails (eqb-false 0 1 refl) (λ h. h long);
         ill = fails (eqb-false 0 10 refl) (λ q. q .1 formed);
         over = fails (eqb-false 0 8 refl) (λ q. let b : atoms < standard p .atoms = q .2 in omega arith);
+        no-other = inl refl;
         kept = λ h. absurd (h refl);
         program = λ h. well;
         count-atoms = λ h. refl;

@@ -2,13 +2,14 @@
 -- gives it, what is left then, and what the rows are as sets.
 -- Assumes nothing.
 use mathlib.Core.Path.{_≡_}
-use mathlib.Core.Logic.{_↔_}
+use mathlib.Core.Logic.{_↔_, _⊎_}
 use mathlib.Core.Bool.{true, false}
 use mathlib.Core.List.{List, _++_}
 use Prim.Native.Nat.{ℕ, suc, _+_, _≤_, _<_}
 use lib.Dec.{leb}
 use lib.ListN.{length, getD, drop, replicate}
 use Rattle.limits.specs.Book.{names, rules, atoms, folds, rowWords, bodyWords, bodyArea, rowArea}
+use Rattle.limits.specs.Cause.{OneOf, standardCauses, foldCauses, roundsCauses}
 use Rattle.sets.specs.Set.{Within, Same, count}
 use Rattle.sets.specs.Steps.{First, Least}
 use Rattle.program.specs.Program.{Program, WellFormed, InEveryModel, size}
@@ -38,6 +39,8 @@ pub record Folds (all spare : List ℕ) (m k : ℕ) (r : FoldOutcome) : Type 0 w
   pub short : (r .number ≡ 1) ↔ (FoldLong all spare → ⊥)
   pub over : (r .number ≡ 9) ↔ (FoldLong all spare × (folds < k))
   pub ill : (r .number ≡ 10) ↔ (FoldLong all spare × (k ≤ folds) × (FoldFormed all m → ⊥))
+  -- 0 and these are all its numbers
+  pub no-other : (r .number ≡ 0) ⊎ OneOf (r .number) foldCauses
   pub kept : (r .number ≡ 0 → ⊥) → (r .all ≡ all) × (r .spare ≡ spare)
   -- each row is the definition's after k folds, over the rows as they were
   pub rows : r .number ≡ 0 → (i : ℕ) → i < atoms → (a : ℕ) → rowIn rowWords (r .all) i a ≡ rowsAfter k m (rowIn rowWords all) i a
@@ -61,6 +64,8 @@ pub record Runs (o : RowAreas) (m : ℕ) (s : System) (r : RoundsOutcome) : Type
   pub short : (r .number ≡ 1) ↔ (RoundsLong o → ⊥)
   pub ill : (r .number ≡ 10) ↔ (RoundsLong o × (RoundsFormed o m → ⊥))
   pub lost : (r .number ≡ 11) ↔ (RoundsLong o × RoundsFormed o m × Lost s)
+  -- 0 and these are all its numbers
+  pub no-other : (r .number ≡ 0) ⊎ OneOf (r .number) roundsCauses
   pub kept : (r .number ≡ 0 → ⊥) → (r .rounds ≡ 0) × (r .model ≡ o .model)
   -- the rounds are the first that changes nothing, and that one is counted
   pub first : r .number ≡ 0 → (q : ℕ) × (r .rounds ≡ suc q) × First m (round s) (s .start) q
@@ -101,6 +106,8 @@ pub record Standardises (tables : RuleTables) (counts : Counts) (o : RowAreas) (
   pub short : (r .number ≡ 1) ↔ (StandardLong tables o → ⊥)
   pub ill : (r .number ≡ 10) ↔ (StandardLong tables o × (StandardFormed tables counts → ⊥))
   pub over : (r .number ≡ 8) ↔ (StandardLong tables o × StandardFormed tables counts × (atoms < standard p .atoms))
+  -- 0 and these are all its numbers
+  pub no-other : (r .number ≡ 0) ⊎ OneOf (r .number) standardCauses
   pub kept : (r .number ≡ 0 → ⊥) → (r .atoms ≡ 0) × (r .c ≡ 0) × (r .h ≡ 0) × (r .areas ≡ o)
   pub program : r .number ≡ 0 → WellFormed p
   -- the counts, by the rules
