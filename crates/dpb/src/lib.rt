@@ -12,6 +12,6 @@ pub extern "C" fn dpb_list(text: &[u8], folds: u64, listing: &mut [u8]) -> u64
     ensures { λ r. ⌜ record { returned = r; listing = now (listing .exit) }
         ≡ hostCall ourLetters (now (text .entry)) folds (now (listing .entry)) ⌝ }
 {
-    let r = lister::list(text, folds as usize, listing);
+    let r = hosted::list(text, folds as usize, listing);
     r.number as u64 * REFUSAL_UNIT + r.line as u64
 }

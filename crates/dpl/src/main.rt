@@ -1,5 +1,5 @@
 // The lister: reads a book from standard input and prints its listing, or the line of its refusal. What is printed comes from the crate
-// lister; here is only reading and writing.
+// hosted; here is only reading and writing.
 use libc::STDERR_FILENO;
 use libc::STDIN_FILENO;
 use libc::STDOUT_FILENO;
@@ -12,7 +12,7 @@ const ROOM: usize = Book::TEXT_BYTES + 1;
 
 fn print(text: &[u8]) {
     let mut out = [0u8; Book::LISTING_BYTES];
-    let n = lister::print(text, &mut out);
+    let n = hosted::print(text, &mut out);
     if !io::write_all(STDOUT_FILENO, &out[..n]) {
         io::write_all(STDERR_FILENO, b"dpl: standard output cannot be written\n");
     }

@@ -32,17 +32,17 @@ fn too_short(all: &[u64], any: &[u64], model: &[u64]) -> bool
 }
 
 // Whether the count is within its limit, and neither a bit, of the start set too, nor a row lies at or past it.
-fn well_formed(all: &[u64], any: &[u64], model: &[u64], m: usize) -> bool
+fn well_formed(all: &[u64], any: &[u64], model: &[u64], count: usize) -> bool
     requires { ⌜ RoundsLong (record { all = now all; any = now any; model = now model }) ⌝ }
-    ensures { λ r. ⌜ r ≡ formedSystem (record { all = now (all .entry); any = now (any .entry); model = now (model .entry) }) m ⌝ }
+    ensures { λ r. ⌜ r ≡ formedSystem (record { all = now (all .entry); any = now (any .entry); model = now (model .entry) }) count ⌝ }
 {
-    if !rowcheck::formed(all, m) {
+    if !rowcheck::formed(all, count) {
         return false;
     }
-    if !rowcheck::formed(any, m) {
+    if !rowcheck::formed(any, count) {
         return false;
     }
-    Book::ATOMS <= rows::walk::next(model, 0, Book::ROW_WORDS, m)
+    Book::ATOMS <= rows::walk::next(model, 0, Book::ROW_WORDS, count)
 }
 
 // Whether atom i is in the set after v: an "any" row that is not empty has to meet v, else the "all" row to lie within it.
@@ -57,15 +57,15 @@ fn joins(all: &[u64], any: &[u64], v: &[u64], i: usize) -> bool
     rows::read::meets(any, at, v, 0, Book::ROW_WORDS)
 }
 
-// One round over the first m atoms: `next` gets the set after v.
-fn step(all: &[u64], any: &[u64], v: &[u64], next: &mut [u64], m: usize)
-    requires { ⌜ (m ≤ atoms) × RoundsLong (record { all = now all; any = now any; model = now v }) × (rowWords ≤ length (now next)) ⌝ }
+// One round over the counted atoms: `next` gets the set after v.
+fn step(all: &[u64], any: &[u64], v: &[u64], next: &mut [u64], count: usize)
+    requires { ⌜ (count ≤ atoms) × RoundsLong (record { all = now all; any = now any; model = now v }) × (rowWords ≤ length (now next)) ⌝ }
     ensures { λ r. ⌜ now (next .exit)
-        ≡ withModel (below m (nextSet (now (all .entry)) (now (any .entry)) (now (v .entry)))) (now (next .entry)) ⌝ }
+        ≡ withModel (below count (nextSet (now (all .entry)) (now (any .entry)) (now (v .entry)))) (now (next .entry)) ⌝ }
 {
     rows::clear::clear_tail64(next, 0, Book::ROW_WORDS);
     let mut i = 0;
-    while i < m {
+    while i < count {
         if joins(all, any, v, i) {
             rows::write::insert(next, 0, Book::ROW_WORDS, i);
         }
@@ -74,48 +74,48 @@ fn step(all: &[u64], any: &[u64], v: &[u64], next: &mut [u64], m: usize)
 }
 
 // The rounds from the model area on, `next` being the set after it: counted up to and with the first that changes nothing.
-fn until_still(all: &[u64], any: &[u64], model: &mut [u64], next: &mut [u64], m: usize) -> usize
-    requires { ⌜ RoundsReady (record { all = now all; any = now any; model = now model }) (now next) m ⌝ }
+fn until_still(all: &[u64], any: &[u64], model: &mut [u64], next: &mut [u64], count: usize) -> usize
+    requires { ⌜ RoundsReady (record { all = now all; any = now any; model = now model }) (now next) count ⌝ }
     ensures rounds { λ r. ⌜ r
-        ≡ roundsOf (systemIn (record { all = now (all .entry); any = now (any .entry); model = now (model .entry) }) m) ⌝ }
-    ensures model { λ r. ⌜ now (model .exit) ≡ withModel (below m (heldBy
-        (systemIn (record { all = now (all .entry); any = now (any .entry); model = now (model .entry) }) m))) (now (model .entry)) ⌝ }
-    ensures next { λ r. ⌜ now (next .exit) ≡ withModel (below m (heldBy
-        (systemIn (record { all = now (all .entry); any = now (any .entry); model = now (model .entry) }) m))) (now (next .entry)) ⌝ }
+        ≡ roundsOf (systemIn (record { all = now (all .entry); any = now (any .entry); model = now (model .entry) }) count) ⌝ }
+    ensures model { λ r. ⌜ now (model .exit) ≡ withModel (below count (heldBy
+        (systemIn (record { all = now (all .entry); any = now (any .entry); model = now (model .entry) }) count))) (now (model .entry)) ⌝ }
+    ensures next { λ r. ⌜ now (next .exit) ≡ withModel (below count (heldBy
+        (systemIn (record { all = now (all .entry); any = now (any .entry); model = now (model .entry) }) count))) (now (next .entry)) ⌝ }
 {
-    let mut count = 1;
+    let mut made = 1;
     while !rows::read::equal(model, 0, next, 0, Book::ROW_WORDS) {
         rows::write::copy(model, 0, next, 0, Book::ROW_WORDS);
-        step(all, any, model, next, m);
-        count += 1;
+        step(all, any, model, next, count);
+        made += 1;
     }
-    count
+    made
 }
 
-// Makes the rounds over the first m atoms, from the start set in the model area, and leaves the last set there; a lost start atom leaves it
+// Makes the rounds over the counted atoms, from the start set in the model area, and leaves the last set there; a lost start atom leaves it
 // as it was. For a caller that knows rows and start set to be in order, as after standardising: they are not judged again.
-pub fn run_formed(all: &[u64], any: &[u64], model: &mut [u64], m: usize) -> Answer
+pub fn run_formed(all: &[u64], any: &[u64], model: &mut [u64], count: usize) -> Answer
     requires { ⌜ RoundsLong (record { all = now all; any = now any; model = now model })
-        × (formedSystem (record { all = now all; any = now any; model = now model }) m ≡ true) ⌝ }
+        × (formedSystem (record { all = now all; any = now any; model = now model }) count ≡ true) ⌝ }
     ensures { λ r. ⌜ record { number = r .number; rounds = r .rounds; model = now (model .exit) }
-        ≡ roundsCall (record { all = now (all .entry); any = now (any .entry); model = now (model .entry) }) m ⌝ }
+        ≡ roundsCall (record { all = now (all .entry); any = now (any .entry); model = now (model .entry) }) count ⌝ }
 {
     let mut next = [0u64; Book::ROW_WORDS];
-    step(all, any, model, &mut next, m);
+    step(all, any, model, &mut next, count);
     if !rows::read::within(model, 0, &next, 0, Book::ROW_WORDS) {
         return Answer {
             number: Refusal::START_LOST,
             rounds: 0,
         };
     }
-    let rounds = until_still(all, any, model, &mut next, m);
+    let rounds = until_still(all, any, model, &mut next, count);
     Answer { number: 0, rounds }
 }
 
 // Judges rows and start set, then makes the rounds; a refusal leaves the model area as it was.
-pub fn run(all: &[u64], any: &[u64], model: &mut [u64], m: usize) -> Answer
+pub fn run(all: &[u64], any: &[u64], model: &mut [u64], count: usize) -> Answer
     ensures { λ r. ⌜ record { number = r .number; rounds = r .rounds; model = now (model .exit) }
-        ≡ roundsCall (record { all = now (all .entry); any = now (any .entry); model = now (model .entry) }) m ⌝ }
+        ≡ roundsCall (record { all = now (all .entry); any = now (any .entry); model = now (model .entry) }) count ⌝ }
 {
     if too_short(all, any, model) {
         return Answer {
@@ -123,11 +123,11 @@ pub fn run(all: &[u64], any: &[u64], model: &mut [u64], m: usize) -> Answer
             rounds: 0,
         };
     }
-    if !well_formed(all, any, model, m) {
+    if !well_formed(all, any, model, count) {
         return Answer {
             number: Refusal::ILL_FORMED,
             rounds: 0,
         };
     }
-    run_formed(all, any, model, m)
+    run_formed(all, any, model, count)
 }

@@ -48,44 +48,44 @@ fn fold_row(from: &[u64], to: &mut [u64], i: usize)
     copy(to, at, &new, 0, Book::ROW_WORDS);
 }
 
-// One fold of the first m rows.
-fn fold_rows(from: &[u64], to: &mut [u64], m: usize)
-    requires { ⌜ (m ≤ atoms) × (rowArea ≤ length (now from)) × (rowArea ≤ length (now to)) ⌝ }
-    ensures { λ r. ⌜ now (to .exit) ≡ begun (packed rowWords m (unfoldOnce atoms (rowIn rowWords (now (from .entry))))) (now (to .entry)) ⌝ }
+// One fold of the first count rows.
+fn fold_rows(from: &[u64], to: &mut [u64], count: usize)
+    requires { ⌜ (count ≤ atoms) × (rowArea ≤ length (now from)) × (rowArea ≤ length (now to)) ⌝ }
+    ensures { λ r. ⌜ now (to .exit) ≡ begun (packed rowWords count (unfoldOnce atoms (rowIn rowWords (now (from .entry))))) (now (to .entry)) ⌝ }
 {
     let mut i = 0;
-    while i < m {
+    while i < count {
         fold_row(from, to, i);
         i += 1;
     }
 }
 
-// k folds of the first m rows; no row is copied but after an odd number of them. Afterwards the spare is zero. For a caller that knows
+// k folds of the first count rows; no row is copied but after an odd number of them. Afterwards the spare is zero. For a caller that knows
 // its rows to be in order, as after standardising: they are not judged again. Nor is a spare cleared past them that it knows to be clear
 // (fresh).
-pub fn fold_formed(all: &mut [u64], spare: &mut [u64], m: usize, k: usize, fresh: bool)
-    requires { ⌜ (m ≤ atoms) × (k ≤ folds) × (rowArea ≤ length (now all)) × (rowArea ≤ length (now spare)) × (formedRows rowWords atoms m (now all) ≡ true) × (fresh ≡ true → Clear rowArea (now spare)) ⌝ }
-    ensures all { λ r. ⌜ now (all .exit) ≡ foldedArea k m (now (all .entry)) ⌝ }
+pub fn fold_formed(all: &mut [u64], spare: &mut [u64], count: usize, k: usize, fresh: bool)
+    requires { ⌜ (count ≤ atoms) × (k ≤ folds) × (rowArea ≤ length (now all)) × (rowArea ≤ length (now spare)) × (formedRows rowWords atoms count (now all) ≡ true) × (fresh ≡ true → Clear rowArea (now spare)) ⌝ }
+    ensures all { λ r. ⌜ now (all .exit) ≡ foldedArea k count (now (all .entry)) ⌝ }
     ensures spare { λ r. ⌜ now (spare .exit) ≡ filled rowArea [] (now (spare .entry)) ⌝ }
 {
     let mut done = 0;
     while done + 1 < k {
-        fold_rows(all, spare, m);
-        fold_rows(spare, all, m);
+        fold_rows(all, spare, count);
+        fold_rows(spare, all, count);
         done += 2;
     }
     if done < k {
-        fold_rows(all, spare, m);
-        copy(all, 0, spare, 0, Book::row_at(m));
+        fold_rows(all, spare, count);
+        copy(all, 0, spare, 0, Book::row_at(count));
     }
-    let unused = Book::row_at(m);
+    let unused = Book::row_at(count);
     clear_tail64(spare, 0, unused);
     clear_stale64(spare, unused, Book::ROW_AREA, fresh);
 }
 
-// Judges the rows of m atoms, makes k folds of them, and clears the spare; returns 0, or the number of a refusal, which leaves all as it was.
-pub fn fold(all: &mut [u64], spare: &mut [u64], m: usize, k: usize) -> usize
-    ensures { λ r. ⌜ record { number = r; all = now (all .exit); spare = now (spare .exit) } ≡ foldCall (now (all .entry)) (now (spare .entry)) m k ⌝ }
+// Judges the rows of count atoms, makes k folds of them, and clears the spare; returns 0, or the number of a refusal, which leaves all as it was.
+pub fn fold(all: &mut [u64], spare: &mut [u64], count: usize, k: usize) -> usize
+    ensures { λ r. ⌜ record { number = r; all = now (all .exit); spare = now (spare .exit) } ≡ foldCall (now (all .entry)) (now (spare .entry)) count k ⌝ }
 {
     if all.len() < Book::ROW_AREA || spare.len() < Book::ROW_AREA {
         return Refusal::SHORT_AREA;
@@ -93,9 +93,9 @@ pub fn fold(all: &mut [u64], spare: &mut [u64], m: usize, k: usize) -> usize
     if Book::FOLDS < k {
         return Refusal::FOLDS;
     }
-    if !rowcheck::formed(all, m) {
+    if !rowcheck::formed(all, count) {
         return Refusal::ILL_FORMED;
     }
-    fold_formed(all, spare, m, k, false);
+    fold_formed(all, spare, count, k, false);
     0
 }

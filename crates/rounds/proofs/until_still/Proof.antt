@@ -15,12 +15,12 @@ use Rattle.rounds.proofs.until_still.Statement.{statement}
 use Rattle.rounds.proofs.until_still.Tie as tie
 
 abbrev Inv-loop : tie.InvT-loop
-Inv-loop all any model₀ next₀ m count₀ model next count =
-    (length model ≡ length model₀) × (length next ≡ length next₀) × (m ≤ atoms) × (count ≤ m + 1)
-    × Turn m (round (systemIn (record { all = all; any = any; model = model₀ }) m)) (modelIn model₀) (nextSet all any) model₀ next₀ model next count
+Inv-loop all any model₀ next₀ m count₀ model next made =
+    (length model ≡ length model₀) × (length next ≡ length next₀) × (m ≤ atoms) × (made ≤ m + 1)
+    × Turn m (round (systemIn (record { all = all; any = any; model = model₀ }) m)) (modelIn model₀) (nextSet all any) model₀ next₀ model next made
 
 abbrev μ-loop : tie.MeasureT-loop
-μ-loop all any model₀ next₀ m count₀ model next count = m + 1 - count
+μ-loop all any model₀ next₀ m count₀ model next made = m + 1 - made
 
 loop-holds : tie.Need-loop-holds Inv-loop μ-loop
 loop-holds c =

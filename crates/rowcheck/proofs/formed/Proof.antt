@@ -17,22 +17,22 @@ abbrev μ-loop : tie.MeasureT-loop
 μ-loop area m i₀ i = m - i
 
 loop-holds : tie.Need-loop-holds Inv-loop μ-loop
-loop-holds c = let a = c .before .before .args in (search needs, every-none (kept rowWords (a .m) (a .area .now)))
+loop-holds c = let a = c .before .before .args in (search needs, every-none (kept rowWords (a .count) (a .area .now)))
 
 returns-2 : tie.Need-returns-2 Inv-loop μ-loop
 returns-2 c =
     let i = c .before .before .before .before .before in
     let a = i .before .before .args in
-    kept-off rowWords (a .m) (a .area .now) _ _ _ (c .before .before .before .loop-test .taken) (c .before .before .row-at .ensures)
+    kept-off rowWords (a .count) (a .area .now) _ _ _ (c .before .before .before .loop-test .taken) (c .before .before .row-at .ensures)
     (c .before .next .ensures) atoms (i .if1 .left) (i .if1 .left) (c .if2 .taken)
-    ∙ rows-decide (a .area .now) (a .m) (i .if1 .left)
+    ∙ rows-decide (a .area .now) (a .count) (i .if1 .left)
 
 loop-again : tie.Need-loop-again Inv-loop μ-loop
 loop-again c =
     let l = c .before .before .before .before in
     let a = l .before .before .before .args in (
       search needs,
-      kept-on rowWords (a .m) (a .area .now) _ _ _ (c .before .before .before .loop-test .taken) (c .before .before .row-at .ensures)
+      kept-on rowWords (a .count) (a .area .now) _ _ _ (c .before .before .before .loop-test .taken) (c .before .before .row-at .ensures)
           (c .before .next .ensures) (l .loop .inv .1) (c .if2 .left),
     )
 
@@ -41,9 +41,9 @@ returns-3 c =
     let l = c .before .before .before in
     let i = l .before in
     let a = i .before .before .args in
-    kept-end rowWords (a .m) (a .area .now) _ atoms _ _ _ (l .loop .inv .0) (c .before .before .loop-test .left) (i .if1 .left)
+    kept-end rowWords (a .count) (a .area .now) _ atoms _ _ _ (l .loop .inv .0) (c .before .before .loop-test .left) (i .if1 .left)
     (c .before .row-at2 .ensures) refl (l .loop .inv .1) (c .empty .ensures)
-    ∙ rows-decide (a .area .now) (a .m) (i .if1 .left)
+    ∙ rows-decide (a .area .now) (a .count) (i .if1 .left)
 
 pub formed-spec : {M : Type 1} → statement M
 formed-spec =

@@ -24,7 +24,7 @@ loop-holds c =
       search needs,
       search needs,
       search needs,
-      folds-none rowWords (s .args .m) (s .args .all .now) (c .before .slice-known .given) (omega (arith, s .pre .0, s .pre .2)),
+      folds-none rowWords (s .args .count) (s .args .all .now) (c .before .slice-known .given) (omega (arith, s .pre .0, s .pre .2)),
       search needs,
     )
 
@@ -36,9 +36,9 @@ loop-again c =
       search needs,
       search needs,
       search needs,
-      two-folds rowWords atoms (s .args .m) (s .args .all .now) (s .pre .0) (omega arith) (s .pre .4) _ _ _ _ (l .loop .inv .3) (f .ensures) _
+      two-folds rowWords atoms (s .args .count) (s .args .all .now) (s .pre .0) (omega arith) (s .pre .4) _ _ _ _ (l .loop .inv .3) (f .ensures) _
           (c .before .before .fold-rows2 .ensures),
-      rows-past rowWords _ _ _ (s .args .m) (f .ensures) ∙ l .loop .inv .4,
+      rows-past rowWords _ _ _ (s .args .count) (f .ensures) ∙ l .loop .inv .4,
     )
 
 clear-tail64-requires : tie.Need-clear-tail64-requires Inv-loop μ-loop
@@ -59,9 +59,9 @@ clear-stale64-requires c κs =
       omega (arith, r .row-at2 .ensures, s .pre .0),
       ⊎-elim (λ w. omega (arith, ap length (w .13), t .clear-tail64 .kept .0)) (λ w. omega (arith, ap length (w .2), t .clear-tail64 .kept .0)) (j .if1 .came),
       λ f.
-          spare-clear rowArea (s .args .m * rowWords) _ (s .args .spare .now) (j .if1 .spare) _ (r .row-at2 .ensures) (omega (arith, s .pre .0))
-          (⊎-elim (λ w. ap (drop (s .args .m * rowWords)) (w .13) ∙ rows-past rowWords _ _ _ (s .args .m) (w .3 .ensures) ∙ l .loop .inv .4)
-          (λ w. ap (drop (s .args .m * rowWords)) (w .2) ∙ l .loop .inv .4)
+          spare-clear rowArea (s .args .count * rowWords) _ (s .args .spare .now) (j .if1 .spare) _ (r .row-at2 .ensures) (omega (arith, s .pre .0))
+          (⊎-elim (λ w. ap (drop (s .args .count * rowWords)) (w .13) ∙ rows-past rowWords _ _ _ (s .args .count) (w .3 .ensures) ∙ l .loop .inv .4)
+          (λ w. ap (drop (s .args .count * rowWords)) (w .2) ∙ l .loop .inv .4)
           (j .if1 .came))
           (t .clear-tail64 .ensures) (s .pre .5 f),
     )
@@ -91,18 +91,18 @@ returns c =
     ⊎-elim
     (λ w. (
       w .12
-          ∙ folds-end _ (s .args .k) (s .args .m) (s .args .all .now) _
-          (one-fold rowWords atoms (s .args .m) (s .args .all .now) (s .pre .0) (omega arith) (s .pre .4) _ _ _ _ (l .loop .inv .3) (w .3 .ensures) _ _
+          ∙ folds-end _ (s .args .k) (s .args .count) (s .args .all .now) _
+          (one-fold rowWords atoms (s .args .count) (s .args .all .now) (s .pre .0) (omega arith) (s .pre .4) _ _ _ _ (l .loop .inv .3) (w .3 .ensures) _ _
           (w .8 .ensures) (w .9 .ensures))
           (omega arith),
-      spare-zero rowArea (s .args .m * rowWords) _ (s .args .spare .now) (j .if1 .spare) _ (r .row-at2 .ensures) (omega (arith, s .pre .0))
-          (ap (drop (s .args .m * rowWords)) (w .13) ∙ rows-past rowWords _ _ _ (s .args .m) (w .3 .ensures) ∙ l .loop .inv .4)
+      spare-zero rowArea (s .args .count * rowWords) _ (s .args .spare .now) (j .if1 .spare) _ (r .row-at2 .ensures) (omega (arith, s .pre .0))
+          (ap (drop (s .args .count * rowWords)) (w .13) ∙ rows-past rowWords _ _ _ (s .args .count) (w .3 .ensures) ∙ l .loop .inv .4)
           (t .clear-tail64 .ensures) _ (z .clear-stale64 .ensures),
     ))
     (λ w. (
-      w .1 ∙ folds-end _ (s .args .k) (s .args .m) (s .args .all .now) _ (l .loop .inv .3) (omega arith),
-      spare-zero rowArea (s .args .m * rowWords) _ (s .args .spare .now) (j .if1 .spare) _ (r .row-at2 .ensures) (omega (arith, s .pre .0))
-          (ap (drop (s .args .m * rowWords)) (w .2) ∙ l .loop .inv .4) (t .clear-tail64 .ensures) _ (z .clear-stale64 .ensures),
+      w .1 ∙ folds-end _ (s .args .k) (s .args .count) (s .args .all .now) _ (l .loop .inv .3) (omega arith),
+      spare-zero rowArea (s .args .count * rowWords) _ (s .args .spare .now) (j .if1 .spare) _ (r .row-at2 .ensures) (omega (arith, s .pre .0))
+          (ap (drop (s .args .count * rowWords)) (w .2) ∙ l .loop .inv .4) (t .clear-tail64 .ensures) _ (z .clear-stale64 .ensures),
     ))
     (j .if1 .came)
 

@@ -1,14 +1,14 @@
--- `lister::print` meets its contract: the listing with its end, or the line of the refusal and zeros. Assumes nothing.
+-- `hosted::print` meets its contract: the listing with its end, or the line of the refusal and zeros. Assumes nothing.
 use mathlib.Core.Path.{_≡_}
 use lib.ListN.{length}
 use Rattle.limits.specs.Book.{listingBytes}
 use Rattle.grammar.specs.Bytes.{ourLetters}
 use Rattle.grammar.proofs.Folding.{folding}
 use Rattle.hosting.proofs.Printing.{refusal-room, refusal-fits, refusal-area, print-refused}
-use Rattle.lister.proofs.Ends.{print-end}
+use Rattle.hosted.proofs.Ends.{print-end}
 use borrow.Author.Needs.{needs}
-use Rattle.lister.proofs.print.Statement.{statement}
-use Rattle.lister.proofs.print.Tie as tie
+use Rattle.hosted.proofs.print.Statement.{statement}
+use Rattle.hosted.proofs.print.Tie as tie
 
 returns : tie.Need-returns
 returns c =

@@ -1,11 +1,11 @@
--- `lister::list` meets its contract: what is seen of the solver's outcome. Assumes nothing.
+-- `hosted::list` meets its contract: what is seen of the solver's outcome. Assumes nothing.
 use Rattle.limits.specs.Book.{rowArea}
 use Rattle.rows.proofs.Zeros.{zeros-clear}
 use Rattle.grammar.specs.Bytes.{ourLetters}
 use Rattle.hosting.proofs.Calls.{list-seen}
 use borrow.Author.Needs.{needs}
-use Rattle.lister.proofs.list.Statement.{statement}
-use Rattle.lister.proofs.list.Tie as tie
+use Rattle.hosted.proofs.list.Statement.{statement}
+use Rattle.hosted.proofs.list.Tie as tie
 
 solve-in-requires : tie.Need-solve-in-requires
 solve-in-requires c κs = λ t. (zeros-clear rowArea, zeros-clear rowArea, zeros-clear rowArea)

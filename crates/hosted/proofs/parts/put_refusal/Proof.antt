@@ -1,10 +1,10 @@
--- `lister::parts::put_refusal` meets its contract. Two fields and the line end, one after the other. Assumes nothing.
+-- `hosted::parts::put_refusal` meets its contract. Two fields and the line end, one after the other. Assumes nothing.
 use native.Mathlib.Omega.{arith}
 use Rattle.copying.proofs.Line.{part-room, end-slot, line-length, line-put, line-next}
-use Rattle.lister.proofs.Refusals.{before-number, after-number, after-place}
+use Rattle.hosted.proofs.Refusals.{before-number, after-number, after-place}
 use borrow.Author.Needs.{needs}
-use Rattle.lister.proofs.parts.put_refusal.Statement.{statement}
-use Rattle.lister.proofs.parts.put_refusal.Tie as tie
+use Rattle.hosted.proofs.parts.put_refusal.Statement.{statement}
+use Rattle.hosted.proofs.parts.put_refusal.Tie as tie
 
 put-field-requires : tie.Need-put-field-requires
 put-field-requires c κs =
