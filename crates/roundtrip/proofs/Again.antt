@@ -19,7 +19,7 @@ use Rattle.grammar.specs.Bytes.{Bytes, Folding, allOf, Among}
 use Rattle.grammar.specs.Grammar.{Clause}
 use Rattle.tables.specs.Numbering.{sameBytes, place, standing, namesOf, numbered}
 use Rattle.tables.specs.Reading.{Fits, Book, bookOf, read}
-use Rattle.tables.specs.Areas.{Areas, filled, filledWith, padded, nameRows, headRows, bodyRows, tablesOf, nameAt, namesIn, rulesIn}
+use Rattle.tables.specs.Areas.{Areas, rulesOf, filled, filledWith, padded, nameRows, headRows, bodyRows, tablesOf, nameAt, namesIn, rulesIn}
 use Rattle.tables.specs.Writing.{own, zeroFrom, goodName, different, numbersIn, orderly, metIn, wellFormed, written, Readable}
 use Rattle.tables.specs.Claims.{Judged}
 use Rattle.tables.proofs.Numbering.{Distinct, same-bytes-eq, names-distinct, names-from, heads-length, bodies-length, book-low}
@@ -90,11 +90,11 @@ module _ (fold : ℕ → ℕ) where
     unfolding tablesOf filledWith
     names-back = names-filled (namesOf cs) (old .spellings) (fine (namesOf cs) good-at)
 
-    pub rules-back : rulesIn (tablesOf cs old) (length cs) ≡ map (numbered (namesOf cs)) cs
+    pub rules-back : rulesIn (rulesOf (tablesOf cs old)) (length cs) ≡ map (numbered (namesOf cs)) cs
     unfolding tablesOf
     rules-back =
         let rs : List (Rule ℕ) = map (numbered (namesOf cs)) cs in
-        ap (rulesIn (filledWith (namesOf cs) rs old)) (sym (length-map cs (numbered (namesOf cs))))
+        ap (rulesIn (rulesOf (filledWith (namesOf cs) rs old))) (sym (length-map cs (numbered (namesOf cs))))
         ∙ rules-filled (namesOf cs) rs old (book-low cs (fits .names-fit))
 
     -- its tables are in order
@@ -113,7 +113,7 @@ module _ (fold : ℕ → ℕ) where
         (and-make (subst (λ (k : ℕ). zeroFrom k rules (filled rules (headRows rs) (old .heads)) ≡ true) m (heads-end rs (old .heads)))
         (subst (λ (k : ℕ). zeroFrom (k * bodyWords) bodyArea (filled bodyArea (bodyRows rs) (old .bodies)) ≡ true) m (bodies-end rs (old .bodies))))
         (and-make (ap (λ (k : List (Rule ℕ)). orderly 0 (numbersIn k)) rules-back ∙ met .0)
-        (eq-eqb (metIn 0 (numbersIn (rulesIn (tablesOf cs old) (length cs)))) (length ns)
+        (eq-eqb (metIn 0 (numbersIn (rulesIn (rulesOf (tablesOf cs old)) (length cs)))) (length ns)
         (ap (λ (k : List (Rule ℕ)). metIn 0 (numbersIn k)) rules-back ∙ met .1)))))
 
   -- what a book's text is, with its tables

@@ -19,7 +19,7 @@ use Rattle.grammar.specs.Bytes.{Bytes, Folding, allOf}
 use Rattle.grammar.specs.Grammar.{Clause}
 use Rattle.tables.specs.Numbering.{sameBytes, place, namesOf, numbered}
 use Rattle.tables.specs.Reading.{Book}
-use Rattle.tables.specs.Areas.{Areas, filled, nameRows, headRows, bodyRows, filledWith, tablesOf, nameAt, namesIn, rulesIn}
+use Rattle.tables.specs.Areas.{Areas, rulesOf, filled, nameRows, headRows, bodyRows, filledWith, tablesOf, nameAt, namesIn, rulesIn}
 use Rattle.tables.specs.Writing.{own, zeroFrom, goodName, different, numbersIn, orderly, metIn, wellFormed}
 use Rattle.tables.proofs.Numbering.{Distinct, same-bytes-eq, same-bytes-refl, place-here, place-on}
 use Rattle.tables.proofs.Good.{Good}
@@ -49,8 +49,8 @@ record Formed (fold : ℕ → ℕ) (o : Areas) (n m : ℕ) : Type 0 where
   names-end : zeroFrom (n * nameBytes) nameArea (o .spellings) ≡ true
   heads-end : zeroFrom m rules (o .heads) ≡ true
   bodies-end : zeroFrom (m * bodyWords) bodyArea (o .bodies) ≡ true
-  in-order : orderly 0 (numbersIn (rulesIn o m)) ≡ true
-  all-met : metIn 0 (numbersIn (rulesIn o m)) ≡ n
+  in-order : orderly 0 (numbersIn (rulesIn (rulesOf o) m)) ≡ true
+  all-met : metIn 0 (numbersIn (rulesIn (rulesOf o) m)) ≡ n
 
 -- the test says all of them
 formed : (fold : ℕ → ℕ) (o : Areas) (n m : ℕ) → wellFormed fold o n m ≡ true → Formed fold o n m
@@ -63,8 +63,8 @@ formed fold o n m e =
     let f : Bool = zeroFrom (n * nameBytes) nameArea (o .spellings) in
     let g : Bool = zeroFrom m rules (o .heads) in
     let h : Bool = zeroFrom (m * bodyWords) bodyArea (o .bodies) in
-    let i : Bool = orderly 0 (numbersIn (rulesIn o m)) in
-    let j : Bool = eqb (metIn 0 (numbersIn (rulesIn o m))) n in
+    let i : Bool = orderly 0 (numbersIn (rulesIn (rulesOf o) m)) in
+    let j : Bool = eqb (metIn 0 (numbersIn (rulesIn (rulesOf o) m))) n in
     let sizes : a && b ≡ true = and-left (a && b) ((c && (d && f)) && ((g && h) && (i && j))) e in
     let rest : (c && (d && f)) && ((g && h) && (i && j)) ≡ true = and-right (a && b) ((c && (d && f)) && ((g && h) && (i && j))) e in
     let spell : c && (d && f) ≡ true = and-left (c && (d && f)) ((g && h) && (i && j)) rest in
@@ -80,7 +80,7 @@ formed fold o n m e =
       heads-end = and-left g h ends;
       bodies-end = and-right g h ends;
       in-order = and-left i j order;
-      all-met = eqb-true (metIn 0 (numbersIn (rulesIn o m))) n (and-right i j order);
+      all-met = eqb-true (metIn 0 (numbersIn (rulesIn (rulesOf o) m))) n (and-right i j order);
     }
 
 -- a row in order holds a folded name
@@ -126,7 +126,7 @@ module _ (fold : ℕ → ℕ) (folding : Folding fold) (o : Areas) (n m : ℕ) (
 
   -- their rules
   abbrev rs : List (Rule ℕ)
-  rs = rulesIn o m
+  rs = rulesIn (rulesOf o) m
 
   -- the clauses that are written from them
   abbrev pub written-clauses : List Clause
@@ -177,7 +177,7 @@ module _ (fold : ℕ → ℕ) (folding : Folding fold) (o : Areas) (n m : ℕ) (
 
   -- and so are the rules
   same-rules : map (numbered ns) written-clauses ≡ rs
-  same-rules = rules-again ns distinct rs below (rules-low o m)
+  same-rules = rules-again ns distinct rs below (rules-low (rulesOf o) m)
 
   -- as many names
   pub count : n ≡ length (namesOf written-clauses)
@@ -185,7 +185,7 @@ module _ (fold : ℕ → ℕ) (folding : Folding fold) (o : Areas) (n m : ℕ) (
 
   -- as many rules
   pub size : m ≡ length written-clauses
-  size = sym (length-map rs (clauseOf ns) ∙ length-rulesFrom o m 0)
+  size = sym (length-map rs (clauseOf ns) ∙ length-rulesFrom (rulesOf o) m 0)
 
   -- the written text is a book
   pub book : Book fold (writtenText o n m) written-clauses
@@ -208,11 +208,11 @@ module _ (fold : ℕ → ℕ) (folding : Folding fold) (o : Areas) (n m : ℕ) (
       in
       let q : filled rules (headRows rs) (o .heads) ≡ o .heads =
       filled-by rules m (headRows rs) (o .heads) (parts .few-rules) (roomy .1)
-      (heads-rules o m (omega (arith, parts .few-rules, roomy .1))) (parts .heads-end)
+      (heads-rules (rulesOf o) m (omega (arith, parts .few-rules, roomy .1))) (parts .heads-end)
       in
       let r : filled bodyArea (bodyRows rs) (o .bodies) ≡ o .bodies =
       filled-by bodyArea (m * bodyWords) (bodyRows rs) (o .bodies) (omega (arith, parts .few-rules)) (roomy .2)
-      (bodies-rules o m (lent .1) (omega (arith, parts .few-rules, roomy .2))) (parts .bodies-end)
+      (bodies-rules (rulesOf o) m (lent .1) (omega (arith, parts .few-rules, roomy .2))) (parts .bodies-end)
       in
       λ i. record { spellings = p i; heads = q i; bodies = r i }
 

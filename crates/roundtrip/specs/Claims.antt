@@ -13,13 +13,13 @@ use Rattle.grammar.specs.Bytes.{Bytes}
 use Rattle.grammar.specs.Grammar.{Clause}
 use Rattle.tables.specs.Numbering.{namesOf}
 use Rattle.tables.specs.Reading.{bookOf, read}
-use Rattle.tables.specs.Areas.{Areas, short, filled, tablesOf, namesIn, rulesIn, readCall}
+use Rattle.tables.specs.Areas.{Areas, rulesOf, short, filled, tablesOf, namesIn, rulesIn, readCall}
 use Rattle.tables.specs.Writing.{Readable, wellFormed, written, Written, writeCall}
 use Rattle.tables.specs.Claims.{accepted}
 
 -- the written text of the tables
 abbrev pub writtenText : Areas → ℕ → ℕ → Bytes
-writtenText o n m = written (namesIn (o .spellings) n) (rulesIn o m)
+writtenText o n m = written (namesIn (o .spellings) n) (rulesIn (rulesOf o) m)
 
 -- the text reads to the tables: n names, m rules, and every word of the three areas over their stated sizes
 pub record ReadsTo (fold : ℕ → ℕ) (t : Bytes) (o : Areas) (n m : ℕ) : Type 0 where

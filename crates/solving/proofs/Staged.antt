@@ -22,9 +22,10 @@ use Rattle.program.proofs.Theorems.{least-model}
 use Rattle.grammar.specs.Grammar.{Clause}
 use Rattle.tables.specs.Numbering.{namesOf, numbered, programOf}
 use Rattle.tables.specs.Reading.{Fits}
-use Rattle.tables.specs.Areas.{Areas, RuleTables, Counts, countsOf, rulesOf, short, filled, headRows, bodyRows, filledWith, tablesOf, rulesIn, rulesOnly, programIn}
+use Rattle.tables.specs.Areas.{Areas, RuleTables, Counts, countsOf, rulesOf, short, rulesIn, programIn}
+use Rattle.tables.specs.Areas.{filled, headRows, bodyRows, filledWith, tablesOf}
 use Rattle.tables.specs.Begun.{begun}
-use Rattle.tables.proofs.Encoding.{rules-in, length-filled, filled-is, long-enough}
+use Rattle.tables.proofs.Encoding.{rules-filled, length-filled, filled-is, long-enough}
 use Rattle.tables.proofs.Numbering.{numbers, heads-length, bodies-length, book-low}
 use Rattle.systems.specs.Rows.{RowAreas, rowIn, packed, below}
 use Rattle.systems.specs.Fold.{shortRows, foldedArea, foldCall}
@@ -60,14 +61,10 @@ module _ (cs : List Clause) (old : Areas) (fits : Fits cs) where
 
   -- the tables give the book's program
   pub tables-program : programIn tables counts ≡ programOf cs
-  unfolding tablesOf filledWith programOf
+  unfolding tablesOf programOf
   tables-program =
-      let given : Areas = rulesOnly (tables .heads) (tables .bodies) in
       ap (λ (x : List (Rule ℕ)). record { names = n; rules = x })
-      (ap (rulesIn given) (sym size)
-      ∙ rules-in rs (replicate (rules - length (headRows rs)) 0 ++ drop rules (old .heads))
-      (replicate (bodyArea - length (bodyRows rs)) 0 ++ drop bodyArea (old .bodies)) given
-      (filled-is rules (headRows rs) (old .heads)) (filled-is bodyArea (bodyRows rs) (old .bodies)) (book-low cs (fits .names-fit)))
+      (ap (rulesIn tables) (sym size) ∙ rules-filled (namesOf cs) rs old (book-low cs (fits .names-fit)))
 
   -- which is well formed
   tables-well : WellFormed (programIn tables counts)

@@ -14,7 +14,7 @@ use Rattle.sets.specs.Set.{Set, every, exists, within}
 use Rattle.sets.proofs.Logic.{either, clash, not-true, and-left, and-right, and-make, of-not, not-of-false, pick-true, pick-false}
 use Rattle.sets.proofs.Tests.{every-at, every-make, exists-find, exists-none, within-at, within-make}
 use Rattle.program.specs.Program.{Rule, WellFormed, noRule, size, headAt, bodyAt}
-use Rattle.tables.specs.Areas.{RuleTables, Counts, ruleAt, rulesOnly, programIn}
+use Rattle.tables.specs.Areas.{RuleTables, Counts, ruleAt, programIn}
 use Rattle.tables.proofs.Encoding.{length-rulesFrom, getD-rulesFrom}
 use Rattle.systems.specs.Rows.{rowIn}
 use Rattle.systems.specs.Standardise.{formedEntry, formedTables}
@@ -36,11 +36,11 @@ module _ (tables : RuleTables) (counts : Counts) where
 
   -- as many rules as are asked for
   pub size-in : size (programIn tables counts) ≡ m
-  size-in = length-rulesFrom (rulesOnly heads bodies) m 0
+  size-in = length-rulesFrom tables m 0
 
   -- rule j as it stands in its row
-  rule-in : (j : ℕ) → j < m → getD (programIn tables counts .rules) j noRule ≡ ruleAt (rulesOnly heads bodies) j
-  rule-in j l = getD-rulesFrom (rulesOnly heads bodies) m 0 j l ∙ ap (ruleAt (rulesOnly heads bodies)) (zero-add j)
+  rule-in : (j : ℕ) → j < m → getD (programIn tables counts .rules) j noRule ≡ ruleAt tables j
+  rule-in j l = getD-rulesFrom tables m 0 j l ∙ ap (ruleAt tables) (zero-add j)
 
   pub head-in : (j : ℕ) → j < m → headAt (programIn tables counts) j ≡ getD heads j 0
   unfolding ruleAt

@@ -5,29 +5,29 @@ use mathlib.Core.Path.{_≡_, refl, sym, ap, ap₂, _∙_, fun-ext}
 use mathlib.Core.Bool.{Bool, not, _&&_, _||_}
 use mathlib.Core.List.{List, [], _++_}
 use Prim.Native.Nat.{ℕ, zero, suc, _+_, _-_, _*_, _≤_, _<_}
-use native.Mathlib.Nat.{le-trans, suc-mul, mul-le-mul-right}
+use native.Mathlib.Nat.{suc-mul, mul-le-mul-right}
 use native.Mathlib.Omega.{arith}
 use lib.Dec.{eqb, leb, ltb}
 use lib.ListN.{getD, take, drop}
-use lib.Seq.{getD-take, ext-getD}
+use lib.Seq.{getD-take}
 use Rattle.limits.specs.Book.{names, rules, atoms, wordBits, rowWords, bodyWords, bodyArea, rowArea}
 use Rattle.sets.specs.Set.{Set, Same, pick, exists, within}
 use Rattle.sets.proofs.Tests.{every-same, exists-same, within-same}
 use Rattle.sets.proofs.Rounds.{rounds-agree, reached-agree}
 use Rattle.words.specs.Row.{row, pack}
 use Rattle.words.proofs.Rows.{length-pack}
-use Rattle.program.specs.Program.{Rule, Program, noRule}
+use Rattle.program.specs.Program.{Rule, Program}
 use Rattle.program.specs.System.{System, round, unfoldOnce, rowsAfter, roundsOf, heldBy}
 use Rattle.program.specs.Standard.{allRow, anyRow, startSet, standard}
-use Rattle.tables.specs.Areas.{Areas, RuleTables, Counts, ruleAt, rulesFrom, rulesOnly, programIn}
-use Rattle.tables.proofs.Sizes.{both-parts, short-first, part-first, begun-first, filled-first, pick-first}
+use Rattle.tables.specs.Areas.{RuleTables, Counts, programIn}
+use Rattle.tables.specs.Sizes.{statedRules}
+use Rattle.tables.proofs.Sizes.{both-parts, short-first, part-first, begun-first, filled-first, pick-first, rules-first}
 use Rattle.tables.specs.Begun.{begun}
-use Rattle.tables.proofs.Encoding.{length-rulesFrom, getD-rulesFrom}
 use Rattle.systems.specs.Rows.{RowAreas, rowIn, packed, below, formedRows}
 use Rattle.systems.specs.Fold.{FoldOutcome, shortRows, formedAll, foldRefusal, foldedArea, foldCall}
 use Rattle.systems.specs.Rounds.{RoundsOutcome, modelIn, withModel, systemIn, shortSystem, formedSystem, startKept, roundsRefusal, roundsMade, roundsCall}
 use Rattle.systems.specs.Standardise.{StandardOutcome, shortRules, shortTables, formedEntry, formedTables, standardRefusal, standardRows, standardOf, standardCall}
-use Rattle.systems.specs.Sizes.{foldWithRest, roundsWithRest, statedRules, statedRows, rowsWithRest, standardWithRest, StatedSizes}
+use Rattle.systems.specs.Sizes.{foldWithRest, roundsWithRest, statedRows, rowsWithRest, standardWithRest, StatedSizes}
 use Rattle.systems.proofs.Packed.{length-packed, packed-same}
 use Rattle.systems.proofs.Formed.{round-same}
 use Rattle.systems.proofs.Bridge.{formed-limits}
@@ -178,14 +178,6 @@ module _ (o : RowAreas) (m : ℕ) where
 
 -- The standardise call.
 
--- rules read from tables that agree where they are read
-rules-alike : (o o′ : Areas) (m : ℕ) → ((j : ℕ) → j < m → ruleAt o j ≡ ruleAt o′ j) → rulesFrom o m 0 ≡ rulesFrom o′ m 0
-rules-alike o o′ m h =
-    ext-getD noRule (rulesFrom o m 0) (rulesFrom o′ m 0) (length-rulesFrom o m 0 ∙ sym (length-rulesFrom o′ m 0))
-    (λ j l.
-    let b : j < m = omega (arith, length-rulesFrom o m 0) in
-    getD-rulesFrom o m 0 j b ∙ h (0 + j) (omega arith) ∙ sym (getD-rulesFrom o′ m 0 j b))
-
 module _ (tables : RuleTables) (counts : Counts) where
   head-first : (j : ℕ) → j < rules → getD (tables .heads) j 0 ≡ getD (statedRules tables .heads) j 0
   head-first j l = sym (getD-take rules (tables .heads) j 0 l)
@@ -208,11 +200,7 @@ module _ (tables : RuleTables) (counts : Counts) where
       (every-same rules (formedEntry tables counts) (formedEntry (statedRules tables) counts) entry-first)
 
   program-first : counts .rules ≤ rules → programIn tables counts ≡ programIn (statedRules tables) counts
-  unfolding ruleAt
-  program-first b =
-      ap (λ (rs : List (Rule ℕ)). record { names = counts .names; rules = rs })
-      (rules-alike (rulesOnly (tables .heads) (tables .bodies)) (rulesOnly (statedRules tables .heads) (statedRules tables .bodies)) (counts .rules)
-      (λ j l. ap₂ (λ (x : ℕ) (f : Set). record { head = x; body = f }) (head-first j (le-trans l b)) (body-first j (le-trans l b))))
+  program-first b = ap (λ (rs : List (Rule ℕ)). record { names = counts .names; rules = rs }) (rules-first tables (counts .rules) 0 (omega arith))
 
 module _ (o : RowAreas) where
   refused-first : (k : ℕ) → standardRefusal k o ≡ standardWithRest o (standardRefusal k (statedRows o))

@@ -4,8 +4,9 @@ use mathlib.Core.Path.{_≡_}
 use mathlib.Core.List.{List, _++_}
 use Prim.Native.Nat.{ℕ}
 use lib.ListN.{take, drop}
-use Rattle.limits.specs.Book.{rules, rowWords, bodyArea, rowArea}
+use Rattle.limits.specs.Book.{rowWords, rowArea}
 use Rattle.tables.specs.Areas.{RuleTables, Counts}
+use Rattle.tables.specs.Sizes.{statedRules}
 use Rattle.systems.specs.Rows.{RowAreas}
 use Rattle.systems.specs.Fold.{FoldOutcome, foldCall}
 use Rattle.systems.specs.Rounds.{RoundsOutcome, roundsCall}
@@ -19,10 +20,6 @@ foldWithRest all spare r =
 -- the same for the rounds call
 abbrev pub roundsWithRest : List ℕ → RoundsOutcome → RoundsOutcome
 roundsWithRest model r = record { number = r .number; rounds = r .rounds; model = r .model ++ drop rowWords model }
-
--- tables, cut to their stated sizes
-abbrev pub statedRules : RuleTables → RuleTables
-statedRules tables = record { heads = take rules (tables .heads); bodies = take bodyArea (tables .bodies) }
 
 -- areas of rows, cut to their stated sizes
 abbrev pub statedRows : RowAreas → RowAreas

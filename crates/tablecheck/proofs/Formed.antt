@@ -8,10 +8,9 @@ use borrow.Author.Tests.{le-leb, lt-leb, leb-true, not-true as made-false, not-f
 use Rattle.limits.specs.Book.{names, nameBytes, rules, bodyWords, nameArea, bodyArea}
 use Rattle.sets.specs.Set.{every}
 use Rattle.sets.proofs.Logic.{and-left, and-right, not-true, clash}
-use Rattle.tables.specs.Areas.{Areas, rulesIn, rulesOnly}
+use Rattle.tables.specs.Areas.{Areas, rulesOf, rulesIn}
 use Rattle.tables.specs.Writing.{zeroFrom, goodName, different, numbersIn, orderly, metIn, wellFormed}
 use Rattle.tablecheck.specs.Order.{ordered}
-use Rattle.tablecheck.proofs.Meeting.{rules-only}
 
 -- a test r of t that is passed over
 pub passed : {r t : Bool} → r ≡ t → not r ≡ false → t ≡ true
@@ -91,7 +90,7 @@ module _ (fold : ℕ → ℕ) (o : Areas) (n m : ℕ) where
   bodies-zero = zeroFrom (m * bodyWords) bodyArea (o .bodies)
 
   abbrev in-order : Bool
-  in-order = orderly 0 (numbersIn (rulesIn o m)) && eqb (metIn 0 (numbersIn (rulesIn o m))) n
+  in-order = orderly 0 (numbersIn (rulesIn (rulesOf o) m)) && eqb (metIn 0 (numbersIn (rulesIn (rulesOf o) m))) n
 
   -- more names or rules than there may be
   pub too-many-names : names < n → false ≡ wellFormed fold o n m
@@ -136,7 +135,7 @@ module _ (fold : ℕ → ℕ) (o : Areas) (n m : ℕ) where
       → different (o .spellings) n ≡ true
       → p ≡ n * nameBytes → zeroFrom p nameArea (o .spellings) ≡ true → zeroFrom m rules (o .heads) ≡ true
       → q ≡ m * bodyWords → zeroFrom q bodyArea (o .bodies) ≡ true
-      → ordered n (numbersIn (rulesIn (rulesOnly (o .heads) (o .bodies)) m)) ≡ wellFormed fold o n m
+      → ordered n (numbersIn (rulesIn (rulesOf o) m)) ≡ wellFormed fold o n m
   unfolding wellFormed ordered
   numbers-decide p q l k c d ep e f eq g =
       sym (rw (
@@ -147,8 +146,7 @@ module _ (fold : ℕ → ℕ) (o : Areas) (n m : ℕ) where
         ap (λ (i : ℕ). zeroFrom i nameArea (o .spellings)) (sym ep) ∙ e,
         f,
         ap (λ (i : ℕ). zeroFrom i bodyArea (o .bodies)) (sym eq) ∙ g,
-      )
-      (sym (ap (λ rs. ordered n (numbersIn rs)) (rules-only o m 0))))
+      ))
 
   -- tables in order are within the limits
   pub few : wellFormed fold o n m ≡ true → (n ≤ names) × (m ≤ rules)

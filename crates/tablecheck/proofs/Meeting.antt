@@ -3,7 +3,7 @@
 use mathlib.Core.Path.{_≡_, refl, sym, ap, ap₂, _∙_}
 use mathlib.Core.List.{List, [], _∷_, _++_}
 use mathlib.Core.Bool.{false}
-use Prim.Native.Nat.{ℕ, zero, suc, _+_, _-_, _*_, _≤_, _<_, max}
+use Prim.Native.Nat.{ℕ, suc, _+_, _-_, _*_, _≤_, _<_, max}
 use native.Mathlib.Numerals.{add-one}
 use native.Mathlib.Omega.{arith}
 use lib.Dec.{eqb, leb}
@@ -13,7 +13,7 @@ use Rattle.limits.specs.Book.{names, bodyWords}
 use Rattle.sets.specs.Set.{Set, pick, next, members}
 use Rattle.sets.proofs.Logic.{either, pick-true, pick-false}
 use Rattle.words.specs.Row.{row, part}
-use Rattle.tables.specs.Areas.{Areas, ruleAt, rulesFrom, rulesIn, rulesOnly}
+use Rattle.tables.specs.Areas.{RuleTables, ruleTables, ruleAt, rulesFrom, rulesIn}
 use Rattle.tables.specs.Writing.{orderly, metIn, numbersOf, numbersIn}
 use Rattle.tablecheck.specs.Order.{counted, ordered}
 use Rattle.tablecheck.proofs.Walks.{onward, stop-at, stop-on, stop-none}
@@ -67,36 +67,30 @@ ordered-yes n met xs e =
     (λ t. let s : 0 ≡ met + 1 = sym (pick-false _ _ t) ∙ e in absurd (omega arith))
 
 -- the numbers of the rules from j on: those of rule j, and the rest
-numbers-on : (o : Areas) (m j : ℕ) → j < m
-    → numbersIn (rulesFrom o (m - j) j) ≡ numbersOf (ruleAt o j) ++ numbersIn (rulesFrom o (m - (j + 1)) (j + 1))
+numbers-on : (tables : RuleTables) (m j : ℕ) → j < m
+    → numbersIn (rulesFrom tables (m - j) j) ≡ numbersOf (ruleAt tables j) ++ numbersIn (rulesFrom tables (m - (j + 1)) (j + 1))
 unfolding rulesFrom numbersIn
-numbers-on o m j l =
+numbers-on tables m j l =
     let e : m - j ≡ suc (m - (j + 1)) = omega arith in
-    ap (λ (k : ℕ). numbersIn (rulesFrom o k j)) e
-    ∙ ap (λ (i : ℕ). numbersOf (ruleAt o j) ++ numbersIn (rulesFrom o (m - (j + 1)) i)) (sym (add-one j))
+    ap (λ (k : ℕ). numbersIn (rulesFrom tables k j)) e
+    ∙ ap (λ (i : ℕ). numbersOf (ruleAt tables j) ++ numbersIn (rulesFrom tables (m - (j + 1)) i)) (sym (add-one j))
 
 -- past the last rule
-numbers-end : (o : Areas) (m j : ℕ) → m ≤ j → numbersIn (rulesFrom o (m - j) j) ≡ []
+numbers-end : (tables : RuleTables) (m j : ℕ) → m ≤ j → numbersIn (rulesFrom tables (m - j) j) ≡ []
 unfolding rulesFrom numbersIn
-numbers-end o m j l = let e : m - j ≡ 0 = omega arith in ap (λ (k : ℕ). numbersIn (rulesFrom o k j)) e
-
--- rules are found in heads and bodies alone
-pub rules-only : (o : Areas) (k j : ℕ) → rulesFrom (rulesOnly (o .heads) (o .bodies)) k j ≡ rulesFrom o k j
-unfolding rulesFrom ruleAt
-rules-only o zero j = refl
-rules-only o (suc k) j = ap (λ rs. ruleAt o j ∷ rs) (rules-only o k (suc j))
+numbers-end tables m j l = let e : m - j ≡ 0 = omega arith in ap (λ (k : ℕ). numbersIn (rulesFrom tables k j)) e
 
 -- rule j of heads and bodies, after `met` numbers: its head
 module _ (heads bodies : List ℕ) (j met : ℕ) where
   -- out of order
-  pub head-off : met < getD heads j 0 → 0 ≡ counted met (numbersOf (ruleAt (rulesOnly heads bodies) j))
+  pub head-off : met < getD heads j 0 → 0 ≡ counted met (numbersOf (ruleAt (ruleTables heads bodies) j))
   unfolding numbersOf ruleAt
   head-off l = sym (counted-off met (getD heads j 0) (members names (row (part (j * bodyWords) bodyWords bodies)) 0) l)
 
   -- in order, with its body's row at `at` and the first stop at a
   pub head-on : (count at a : ℕ) → getD heads j 0 ≤ met → count ≡ max met (suc (getD heads j 0)) → at ≡ j * bodyWords
       → a ≡ next names (row (part at bodyWords bodies)) 0
-      → counted count (onward names (row (part at bodyWords bodies)) a) ≡ counted met (numbersOf (ruleAt (rulesOnly heads bodies) j))
+      → counted count (onward names (row (part at bodyWords bodies)) a) ≡ counted met (numbersOf (ruleAt (ruleTables heads bodies) j))
   unfolding numbersOf ruleAt
   head-on count at a l c p e =
       ap (counted count) (sym (stop-at names (row (part at bodyWords bodies)) 0 a (omega arith) e))
@@ -122,25 +116,26 @@ module _ (n : ℕ) (f : Set) (count a : ℕ) where
   body-end l = sym (ap (counted count) (stop-none n f a l) ∙ counted-none count)
 
 -- the rules from j on, after `met` numbers
-module _ (o : Areas) (m n j met : ℕ) (inv : counted met (numbersIn (rulesFrom o (m - j) j)) ≡ counted 0 (numbersIn (rulesIn o m))) where
+module _ (tables : RuleTables) (m n j met : ℕ)
+    (inv : counted met (numbersIn (rulesFrom tables (m - j) j)) ≡ counted 0 (numbersIn (rulesIn tables m))) where
   -- a rule out of order
-  pub rules-off : (k : ℕ) → j < m → k ≡ counted met (numbersOf (ruleAt o j)) → k ≡ 0 → false ≡ ordered n (numbersIn (rulesIn o m))
+  pub rules-off : (k : ℕ) → j < m → k ≡ counted met (numbersOf (ruleAt tables j)) → k ≡ 0 → false ≡ ordered n (numbersIn (rulesIn tables m))
   rules-off k l e z =
       ordered-no n _
-      (sym inv ∙ ap (counted met) (numbers-on o m j l)
-      ∙ counted-bad met (numbersOf (ruleAt o j)) (numbersIn (rulesFrom o (m - (j + 1)) (j + 1))) (sym e ∙ z))
+      (sym inv ∙ ap (counted met) (numbers-on tables m j l)
+      ∙ counted-bad met (numbersOf (ruleAt tables j)) (numbersIn (rulesFrom tables (m - (j + 1)) (j + 1))) (sym e ∙ z))
 
   -- one in order
-  pub rules-on : (k : ℕ) → j < m → k ≡ counted met (numbersOf (ruleAt o j)) → (k ≡ 0 → ⊥)
-      → counted (k - 1) (numbersIn (rulesFrom o (m - (j + 1)) (j + 1))) ≡ counted 0 (numbersIn (rulesIn o m))
+  pub rules-on : (k : ℕ) → j < m → k ≡ counted met (numbersOf (ruleAt tables j)) → (k ≡ 0 → ⊥)
+      → counted (k - 1) (numbersIn (rulesFrom tables (m - (j + 1)) (j + 1))) ≡ counted 0 (numbersIn (rulesIn tables m))
   rules-on k l e z =
-      sym (counted-good met k (numbersOf (ruleAt o j)) (numbersIn (rulesFrom o (m - (j + 1)) (j + 1))) e z)
-      ∙ sym (ap (counted met) (numbers-on o m j l)) ∙ inv
+      sym (counted-good met k (numbersOf (ruleAt tables j)) (numbersIn (rulesFrom tables (m - (j + 1)) (j + 1))) e z)
+      ∙ sym (ap (counted met) (numbers-on tables m j l)) ∙ inv
 
   -- past the last
-  pub rules-end : m ≤ j → eqb met n ≡ ordered n (numbersIn (rulesIn o m))
-  rules-end l = ordered-yes n met _ (sym inv ∙ ap (counted met) (numbers-end o m j l) ∙ counted-none met)
+  pub rules-end : m ≤ j → eqb met n ≡ ordered n (numbersIn (rulesIn tables m))
+  rules-end l = ordered-yes n met _ (sym inv ∙ ap (counted met) (numbers-end tables m j l) ∙ counted-none met)
 
 -- before the first rule
-pub rules-start : (o : Areas) (m : ℕ) → counted 0 (numbersIn (rulesFrom o (m - 0) 0)) ≡ counted 0 (numbersIn (rulesIn o m))
-rules-start o m = let e : m - 0 ≡ m = omega arith in ap (λ (k : ℕ). counted 0 (numbersIn (rulesFrom o k 0))) e
+pub rules-start : (tables : RuleTables) (m : ℕ) → counted 0 (numbersIn (rulesFrom tables (m - 0) 0)) ≡ counted 0 (numbersIn (rulesIn tables m))
+rules-start tables m = let e : m - 0 ≡ m = omega arith in ap (λ (k : ℕ). counted 0 (numbersIn (rulesFrom tables k 0))) e

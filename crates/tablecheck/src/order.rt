@@ -4,7 +4,7 @@ ghost use mathlib.Core.Path.{_≡_};
 ghost use Prim.Native.Nat.{_+_, _<_, _≤_, suc, max};
 ghost use lib.ListN.{length};
 ghost use Rattle.limits.specs.Book.{rules, bodyArea};
-ghost use Rattle.tables.specs.Areas.{ruleAt, rulesIn, rulesOnly};
+ghost use Rattle.tables.specs.Areas.{ruleTables, ruleAt, rulesIn};
 ghost use Rattle.tables.specs.Writing.{numbersOf, numbersIn};
 ghost use Rattle.tablecheck.specs.Order.{headEnd, counted, ordered};
 
@@ -22,7 +22,7 @@ pub fn raised(met: usize, a: usize) -> usize
 // The numbers of rule j after `met` of them: one more than how many are met then, 0 where they are out of order.
 pub fn rule_order(heads: &[u16], bodies: &[u64], j: usize, met: usize) -> usize
     requires { ⌜ (j < rules) × (rules ≤ length (now heads)) × (bodyArea ≤ length (now bodies)) × (met ≤ headEnd) ⌝ }
-    ensures order { λ r. ⌜ r ≡ counted met (numbersOf (ruleAt (rulesOnly (now (heads .entry)) (now (bodies .entry))) j)) ⌝ }
+    ensures order { λ r. ⌜ r ≡ counted met (numbersOf (ruleAt (ruleTables (now (heads .entry)) (now (bodies .entry))) j)) ⌝ }
     ensures bound { λ r. ⌜ r ≤ headEnd + 1 ⌝ }
 {
     let head = heads[j] as usize;
@@ -45,7 +45,7 @@ pub fn rule_order(heads: &[u16], bodies: &[u64], j: usize, met: usize) -> usize
 // Whether the numbers of the first m rules are numbered by first appearance, n in all.
 pub fn in_order(heads: &[u16], bodies: &[u64], n: usize, m: usize) -> bool
     requires { ⌜ (m ≤ rules) × (rules ≤ length (now heads)) × (bodyArea ≤ length (now bodies)) ⌝ }
-    ensures { λ r. ⌜ r ≡ ordered n (numbersIn (rulesIn (rulesOnly (now (heads .entry)) (now (bodies .entry))) m)) ⌝ }
+    ensures { λ r. ⌜ r ≡ ordered n (numbersIn (rulesIn (ruleTables (now (heads .entry)) (now (bodies .entry))) m)) ⌝ }
 {
     let mut met = 0;
     let mut j = 0;

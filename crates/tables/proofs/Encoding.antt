@@ -18,7 +18,7 @@ use Rattle.words.proofs.Areas.{length-part, words-part}
 use Rattle.program.specs.Program.{Rule, noRule}
 use Rattle.grammar.specs.Bytes.{Bytes, allOf}
 use Rattle.grammar.specs.Lines.{span, run}
-use Rattle.tables.specs.Areas.{Areas, short, filled, filledWith, padded, nameRows, headRows, bodyRows, nonzero}
+use Rattle.tables.specs.Areas.{Areas, RuleTables, rulesOf, short, filled, filledWith, padded, nameRows, headRows, bodyRows, nonzero}
 use Rattle.tables.specs.Begun.{begun}
 use Rattle.tables.specs.Areas.{nameAt, namesFrom, namesIn, ruleAt, rulesFrom, rulesIn}
 use Rattle.tables.specs.Writing.{zeroFrom}
@@ -248,83 +248,83 @@ row-pack-low f h =
     row-past (pack bodyWords f) a (omega (arith, length-pack bodyWords f)) ∙ sym (h a l)))
 
 -- rule j of the rows of rules is rule j of them
-pub rule-at : (rs : List (Rule ℕ)) (x y : List ℕ) (o : Areas) → o .heads ≡ headRows rs ++ x → o .bodies ≡ bodyRows rs ++ y
-    → Low rs → (j : ℕ) → j < length rs → ruleAt o j ≡ getD rs j noRule
+pub rule-at : (rs : List (Rule ℕ)) (x y : List ℕ) (tables : RuleTables)
+    → tables .heads ≡ headRows rs ++ x → tables .bodies ≡ bodyRows rs ++ y → Low rs → (j : ℕ) → j < length rs → ruleAt tables j ≡ getD rs j noRule
 unfolding ruleAt
-rule-at rs x y o p q h j l =
+rule-at rs x y tables p q h j l =
     ap₂ (λ (k : ℕ) (f : Set). record { head = k; body = f })
     (ap (λ (k : List ℕ). getD k j 0) p ∙ getD-headRows rs x j l)
     (ap (λ (k : List ℕ). row (part (j * bodyWords) bodyWords k)) q ∙ ap row (part-bodyRows rs y j l)
     ∙ row-pack-low (getD rs j noRule .body) (λ a m. h j a l m))
 
 -- rules read one by one
-rules-from : (o : Areas) (rs : List (Rule ℕ)) (j : ℕ)
-    → ((i : ℕ) → i < length rs → ruleAt o (j + i) ≡ getD rs i noRule) → rulesFrom o (length rs) j ≡ rs
+rules-from : (tables : RuleTables) (rs : List (Rule ℕ)) (j : ℕ)
+    → ((i : ℕ) → i < length rs → ruleAt tables (j + i) ≡ getD rs i noRule) → rulesFrom tables (length rs) j ≡ rs
 unfolding rulesFrom
-rules-from o [] j h = refl
-rules-from o (r ∷ rs) j h =
+rules-from tables [] j h = refl
+rules-from tables (r ∷ rs) j h =
     let z : j ≡ j + 0 = omega arith in
-    ap₂ _∷_ (ap (ruleAt o) z ∙ h zero (omega arith))
-    (rules-from o rs (suc j)
-    (λ i l. let q : suc j + i ≡ j + suc i = omega arith in ap (ruleAt o) q ∙ h (suc i) (omega arith)))
+    ap₂ _∷_ (ap (ruleAt tables) z ∙ h zero (omega arith))
+    (rules-from tables rs (suc j)
+    (λ i l. let q : suc j + i ≡ j + suc i = omega arith in ap (ruleAt tables) q ∙ h (suc i) (omega arith)))
 
 -- the rules read from the rows of rules are these
-pub rules-in : (rs : List (Rule ℕ)) (x y : List ℕ) (o : Areas) → o .heads ≡ headRows rs ++ x → o .bodies ≡ bodyRows rs ++ y
-    → Low rs → rulesIn o (length rs) ≡ rs
-rules-in rs x y o p q h =
-    rules-from o rs 0 (λ i l. let e : 0 + i ≡ i = omega arith in ap (ruleAt o) e ∙ rule-at rs x y o p q h i l)
+pub rules-in : (rs : List (Rule ℕ)) (x y : List ℕ) (tables : RuleTables)
+    → tables .heads ≡ headRows rs ++ x → tables .bodies ≡ bodyRows rs ++ y → Low rs → rulesIn tables (length rs) ≡ rs
+rules-in rs x y tables p q h =
+    rules-from tables rs 0 (λ i l. let e : 0 + i ≡ i = omega arith in ap (ruleAt tables) e ∙ rule-at rs x y tables p q h i l)
 
 -- as many rules are read as are asked for
-pub length-rulesFrom : (o : Areas) (k j : ℕ) → length (rulesFrom o k j) ≡ k
+pub length-rulesFrom : (tables : RuleTables) (k j : ℕ) → length (rulesFrom tables k j) ≡ k
 unfolding rulesFrom
-length-rulesFrom o zero j = refl
-length-rulesFrom o (suc k) j = ap suc (length-rulesFrom o k (suc j))
+length-rulesFrom tables zero j = refl
+length-rulesFrom tables (suc k) j = ap suc (length-rulesFrom tables k (suc j))
 
 -- each as it stands in its row
-pub getD-rulesFrom : (o : Areas) (k j i : ℕ) → i < k → getD (rulesFrom o k j) i noRule ≡ ruleAt o (j + i)
+pub getD-rulesFrom : (tables : RuleTables) (k j i : ℕ) → i < k → getD (rulesFrom tables k j) i noRule ≡ ruleAt tables (j + i)
 unfolding rulesFrom
-getD-rulesFrom o zero j i l = absurd (omega arith)
-getD-rulesFrom o (suc k) j zero l = let z : j ≡ j + 0 = omega arith in ap (ruleAt o) z
-getD-rulesFrom o (suc k) j (suc i) l =
+getD-rulesFrom tables zero j i l = absurd (omega arith)
+getD-rulesFrom tables (suc k) j zero l = let z : j ≡ j + 0 = omega arith in ap (ruleAt tables) z
+getD-rulesFrom tables (suc k) j (suc i) l =
     let q : suc j + i ≡ j + suc i = omega arith in
-    getD-rulesFrom o k (suc j) i (omega arith) ∙ ap (ruleAt o) q
+    getD-rulesFrom tables k (suc j) i (omega arith) ∙ ap (ruleAt tables) q
 
 -- the heads of rules that are read, written again
-heads-from : (o : Areas) (k j : ℕ) → j + k ≤ length (o .heads) → headRows (rulesFrom o k j) ≡ part j k (o .heads)
+heads-from : (tables : RuleTables) (k j : ℕ) → j + k ≤ length (tables .heads) → headRows (rulesFrom tables k j) ≡ part j k (tables .heads)
 unfolding headRows rulesFrom ruleAt
-heads-from o zero j h = refl
-heads-from o (suc k) j h =
-    ap (λ (t : List ℕ). getD (o .heads) j 0 ∷ t) (heads-from o k (suc j) (omega arith))
-    ∙ ap (take (suc k)) (sym (drop-cons (o .heads) j 0 (omega arith)))
+heads-from tables zero j h = refl
+heads-from tables (suc k) j h =
+    ap (λ (t : List ℕ). getD (tables .heads) j 0 ∷ t) (heads-from tables k (suc j) (omega arith))
+    ∙ ap (take (suc k)) (sym (drop-cons (tables .heads) j 0 (omega arith)))
 
-pub heads-rules : (o : Areas) (m : ℕ) → m ≤ length (o .heads) → headRows (rulesIn o m) ≡ take m (o .heads)
-heads-rules o m h = heads-from o m 0 (omega arith)
+pub heads-rules : (tables : RuleTables) (m : ℕ) → m ≤ length (tables .heads) → headRows (rulesIn tables m) ≡ take m (tables .heads)
+heads-rules tables m h = heads-from tables m 0 (omega arith)
 
 -- their bodies, written again
-bodies-from : (o : Areas) (k j : ℕ) → Words (o .bodies) → (j + k) * bodyWords ≤ length (o .bodies)
-    → bodyRows (rulesFrom o k j) ≡ part (j * bodyWords) (k * bodyWords) (o .bodies)
+bodies-from : (tables : RuleTables) (k j : ℕ) → Words (tables .bodies) → (j + k) * bodyWords ≤ length (tables .bodies)
+    → bodyRows (rulesFrom tables k j) ≡ part (j * bodyWords) (k * bodyWords) (tables .bodies)
 unfolding bodyRows rulesFrom ruleAt
-bodies-from o zero j w h = part-none bodyWords (j * bodyWords) (o .bodies)
-bodies-from o (suc k) j w h =
-    let r : List ℕ = part (j * bodyWords) bodyWords (o .bodies) in
-    let e : length r ≡ bodyWords = length-part (j * bodyWords) bodyWords (o .bodies) (omega arith) in
+bodies-from tables zero j w h = part-none bodyWords (j * bodyWords) (tables .bodies)
+bodies-from tables (suc k) j w h =
+    let r : List ℕ = part (j * bodyWords) bodyWords (tables .bodies) in
+    let e : length r ≡ bodyWords = length-part (j * bodyWords) bodyWords (tables .bodies) (omega arith) in
     ap₂ _++_
-    (ap (λ (i : ℕ). pack i (row r)) (sym e) ∙ pack-row r (words-part (j * bodyWords) bodyWords (o .bodies) w))
-    (bodies-from o k (suc j) w (omega arith))
-    ∙ part-more bodyWords k j (o .bodies)
+    (ap (λ (i : ℕ). pack i (row r)) (sym e) ∙ pack-row r (words-part (j * bodyWords) bodyWords (tables .bodies) w))
+    (bodies-from tables k (suc j) w (omega arith))
+    ∙ part-more bodyWords k j (tables .bodies)
 
-pub bodies-rules : (o : Areas) (m : ℕ) → Words (o .bodies) → m * bodyWords ≤ length (o .bodies)
-    → bodyRows (rulesIn o m) ≡ take (m * bodyWords) (o .bodies)
-bodies-rules o m w h = bodies-from o m 0 w (omega arith)
+pub bodies-rules : (tables : RuleTables) (m : ℕ) → Words (tables .bodies) → m * bodyWords ≤ length (tables .bodies)
+    → bodyRows (rulesIn tables m) ≡ take (m * bodyWords) (tables .bodies)
+bodies-rules tables m w h = bodies-from tables m 0 w (omega arith)
 
 -- A body that is read has no member at or past 128.
-pub rules-low : (o : Areas) (m : ℕ) → Low (rulesIn o m)
+pub rules-low : (tables : RuleTables) (m : ℕ) → Low (rulesIn tables m)
 unfolding ruleAt
-rules-low o m j a l h =
-    let j′ : j < m = omega (arith, length-rulesFrom o m 0) in
-    let r : List ℕ = part ((0 + j) * bodyWords) bodyWords (o .bodies) in
-    let k : length r ≤ bodyWords = omega (arith, length-take bodyWords (drop ((0 + j) * bodyWords) (o .bodies))) in
-    ap (λ (x : Rule ℕ). x .body a) (getD-rulesFrom o m 0 j j′) ∙ row-past r a (omega arith)
+rules-low tables m j a l h =
+    let j′ : j < m = omega (arith, length-rulesFrom tables m 0) in
+    let r : List ℕ = part ((0 + j) * bodyWords) bodyWords (tables .bodies) in
+    let k : length r ≤ bodyWords = omega (arith, length-take bodyWords (drop ((0 + j) * bodyWords) (tables .bodies))) in
+    ap (λ (x : Rule ℕ). x .body a) (getD-rulesFrom tables m 0 j j′) ∙ row-past r a (omega arith)
 
 -- Areas of their stated sizes.
 
@@ -397,12 +397,12 @@ names-filled ns old h =
     ap (λ (area : List ℕ). namesIn area (length ns)) (filled-is nameArea (nameRows ns) old)
     ∙ names-in ns (replicate (nameArea - length (nameRows ns)) 0 ++ drop nameArea old) h
 
-pub rules-filled : (ns : List Bytes) (rs : List (Rule ℕ)) (old : Areas) → Low rs → rulesIn (filledWith ns rs old) (length rs) ≡ rs
+pub rules-filled : (ns : List Bytes) (rs : List (Rule ℕ)) (old : Areas) → Low rs → rulesIn (rulesOf (filledWith ns rs old)) (length rs) ≡ rs
 unfolding filledWith
 rules-filled ns rs old h =
     rules-in rs (replicate (rules - length (headRows rs)) 0 ++ drop rules (old .heads))
-    (replicate (bodyArea - length (bodyRows rs)) 0 ++ drop bodyArea (old .bodies)) (filledWith ns rs old) (filled-is rules (headRows rs) (old .heads))
-    (filled-is bodyArea (bodyRows rs) (old .bodies)) h
+    (replicate (bodyArea - length (bodyRows rs)) 0 ++ drop bodyArea (old .bodies)) (rulesOf (filledWith ns rs old))
+    (filled-is rules (headRows rs) (old .heads)) (filled-is bodyArea (bodyRows rs) (old .bodies)) h
 
 -- Areas begun.
 

@@ -21,10 +21,10 @@ use Rattle.grammar.specs.Lines.{run}
 use Rattle.tables.specs.Numbering.{sameBytes, namesOf, numbered}
 use Rattle.tables.specs.Reading.{Reading, read, refused, reading}
 use Rattle.tables.specs.Areas.{Areas, filled, nameRows, headRows, bodyRows, filledWith, tablesOf, short, refusal, outcome, readCall}
-use Rattle.tables.specs.Areas.{nonzero, nameAt, namesFrom, namesIn, ruleAt, rulesFrom, rulesIn}
+use Rattle.tables.specs.Areas.{RuleTables, rulesOf, nonzero, nameAt, namesFrom, namesIn, ruleAt, rulesFrom, rulesIn}
 use Rattle.tables.specs.Begun.{begun}
 use Rattle.tables.specs.Writing.{written, own, zeroFrom, goodName, different, numbersIn, orderly, metIn, wellFormed, Written, placed, writeCall}
-use Rattle.tables.specs.Sizes.{statedTables, tablesWithRest, readWithRest, writtenWithRest, TableSizes}
+use Rattle.tables.specs.Sizes.{statedTables, statedRules, tablesWithRest, readWithRest, writtenWithRest, TableSizes}
 
 -- The first entries of an area.
 
@@ -144,16 +144,16 @@ names-first area (suc k) a h =
     ap₂ (λ (p : Bytes) (ns : List Bytes). run nonzero p ∷ ns) (name-first area a (omega arith)) (names-first area k (suc a) (omega arith))
 
 -- the rules
-rule-first : (o : Areas) (j : ℕ) → j < rules → ruleAt o j ≡ ruleAt (statedTables o) j
+rule-first : (tables : RuleTables) (j : ℕ) → j < rules → ruleAt tables j ≡ ruleAt (statedRules tables) j
 unfolding ruleAt
-rule-first o j l =
-    ap₂ (λ (x : ℕ) (ws : List ℕ). record { head = x; body = row ws }) (sym (getD-take rules (o .heads) j 0 l))
-    (part-first (j * bodyWords) bodyWords bodyArea (o .bodies) (omega arith))
+rule-first tables j l =
+    ap₂ (λ (x : ℕ) (ws : List ℕ). record { head = x; body = row ws }) (sym (getD-take rules (tables .heads) j 0 l))
+    (part-first (j * bodyWords) bodyWords bodyArea (tables .bodies) (omega arith))
 
-rules-first : (o : Areas) (k j : ℕ) → j + k ≤ rules → rulesFrom o k j ≡ rulesFrom (statedTables o) k j
+pub rules-first : (tables : RuleTables) (k j : ℕ) → j + k ≤ rules → rulesFrom tables k j ≡ rulesFrom (statedRules tables) k j
 unfolding rulesFrom
-rules-first o zero j h = refl
-rules-first o (suc k) j h = ap₂ _∷_ (rule-first o j (omega arith)) (rules-first o k (suc j) (omega arith))
+rules-first tables zero j h = refl
+rules-first tables (suc k) j h = ap₂ _∷_ (rule-first tables j (omega arith)) (rules-first tables k (suc j) (omega arith))
 
 -- zeros up to the stated size
 zero-first : (from size : ℕ) (area : List ℕ) → from ≤ size → zeroFrom from size area ≡ zeroFrom from size (take size area)
@@ -180,10 +180,11 @@ module _ (fold : ℕ → ℕ) (o : Areas) (n m : ℕ) where
       (λ b k. ap₂ (λ (p q : Bytes). not (sameBytes (run nonzero p) (run nonzero q))) (name-first area a (omega arith)) (name-first area b (omega arith))))
 
   -- the rules as numbers
-  numbers-first : m ≤ rules → orderly 0 (numbersIn (rulesIn o m)) && eqb (metIn 0 (numbersIn (rulesIn o m))) n
-      ≡ orderly 0 (numbersIn (rulesIn (statedTables o) m)) && eqb (metIn 0 (numbersIn (rulesIn (statedTables o) m))) n
+  numbers-first : m ≤ rules
+      → orderly 0 (numbersIn (rulesIn (rulesOf o) m)) && eqb (metIn 0 (numbersIn (rulesIn (rulesOf o) m))) n
+      ≡ orderly 0 (numbersIn (rulesIn (rulesOf (statedTables o)) m)) && eqb (metIn 0 (numbersIn (rulesIn (rulesOf (statedTables o)) m))) n
   numbers-first h =
-      ap (λ (rs : List (Rule ℕ)). orderly 0 (numbersIn rs) && eqb (metIn 0 (numbersIn rs)) n) (rules-first o m 0 (omega arith))
+      ap (λ (rs : List (Rule ℕ)). orderly 0 (numbersIn rs) && eqb (metIn 0 (numbersIn rs)) n) (rules-first (rulesOf o) m 0 (omega arith))
 
   -- whether tables are in order
   formed-first : wellFormed fold o n m ≡ wellFormed fold (statedTables o) n m
@@ -200,13 +201,14 @@ module _ (fold : ℕ → ℕ) (o : Areas) (n m : ℕ) where
 
   -- the written text
   text-first : wellFormed fold o n m ≡ true
-      → written (namesIn (o .spellings) n) (rulesIn o m) ≡ written (namesIn (take nameArea (o .spellings)) n) (rulesIn (statedTables o) m)
+      → written (namesIn (o .spellings) n) (rulesIn (rulesOf o) m)
+      ≡ written (namesIn (take nameArea (o .spellings)) n) (rulesIn (rulesOf (statedTables o)) m)
   unfolding wellFormed
   text-first e =
       let limits : leb n names && leb m rules ≡ true = and-left (leb n names && leb m rules) _ e in
       let a : n ≤ names = leb-true n names (and-left (leb n names) (leb m rules) limits) in
       let b : m ≤ rules = leb-true m rules (and-right (leb n names) (leb m rules) limits) in
-      ap₂ written (names-first (o .spellings) n 0 (omega arith)) (rules-first o m 0 (omega arith))
+      ap₂ written (names-first (o .spellings) n 0 (omega arith)) (rules-first (rulesOf o) m 0 (omega arith))
 
 -- a text placed in the area
 placed-first : (w area : Bytes) → placed w area ≡ writtenWithRest area (placed w (take textBytes area))
@@ -225,7 +227,7 @@ write-first fold o n m area =
     in
     pick-first rest (ap₂ _||_ (tables-short o) (short-first textBytes area)) (λ t. refused 1)
     (pick-first rest (formed-first fold o n m)
-    (λ t. placed-first (written (namesIn (o .spellings) n) (rulesIn o m)) area
+    (λ t. placed-first (written (namesIn (o .spellings) n) (rulesIn (rulesOf o) m)) area
     ∙ ap (λ (w : Bytes). rest (placed w (take textBytes area))) (text-first fold o n m t))
     (refused 10))
 

@@ -35,6 +35,10 @@ pub record Counts : Type 0 where
 abbrev pub countsOf : List Clause → Counts
 countsOf cs = record { names = length (namesOf cs); rules = length cs }
 
+-- heads and bodies as one
+abbrev pub ruleTables : List ℕ → List ℕ → RuleTables
+ruleTables heads bodies = record { heads = heads; bodies = bodies }
+
 -- the rules' part of the areas
 abbrev pub rulesOf : Areas → RuleTables
 rulesOf o = record { heads = o .heads; bodies = o .bodies }
@@ -130,23 +134,18 @@ abbrev pub namesIn : Bytes → ℕ → List Bytes
 namesIn area n = namesFrom area n 0
 
 -- rule j of the tables
-unfoldable pub ruleAt : Areas → ℕ → Rule ℕ
-ruleAt o j = record { head = getD (o .heads) j 0; body = row (part (j * bodyWords) bodyWords (o .bodies)) }
+unfoldable pub ruleAt : RuleTables → ℕ → Rule ℕ
+ruleAt tables j = record { head = getD (tables .heads) j 0; body = row (part (j * bodyWords) bodyWords (tables .bodies)) }
 
 -- the k rules from j on
-unfoldable pub rulesFrom : Areas → ℕ → ℕ → List (Rule ℕ)
-rulesFrom o zero j = []
-rulesFrom o (suc k) j = ruleAt o j ∷ rulesFrom o k (suc j)
+unfoldable pub rulesFrom : RuleTables → ℕ → ℕ → List (Rule ℕ)
+rulesFrom tables zero j = []
+rulesFrom tables (suc k) j = ruleAt tables j ∷ rulesFrom tables k (suc j)
 
 -- the first m rules of the tables
-abbrev pub rulesIn : Areas → ℕ → List (Rule ℕ)
-rulesIn o m = rulesFrom o m 0
-
--- heads and bodies alone
-abbrev pub rulesOnly : List ℕ → List ℕ → Areas
-rulesOnly heads bodies = record { spellings = []; heads = heads; bodies = bodies }
+abbrev pub rulesIn : RuleTables → ℕ → List (Rule ℕ)
+rulesIn tables m = rulesFrom tables m 0
 
 -- the program that the counted names and rules of the tables give
 abbrev pub programIn : RuleTables → Counts → Program
-programIn tables counts =
-    record { names = counts .names; rules = rulesIn (rulesOnly (tables .heads) (tables .bodies)) (counts .rules) }
+programIn tables counts = record { names = counts .names; rules = rulesIn tables (counts .rules) }

@@ -7,13 +7,17 @@ use Prim.Native.Nat.{ℕ}
 use lib.ListN.{take, drop}
 use Rattle.limits.specs.Book.{textBytes, rules, nameArea, bodyArea}
 use Rattle.grammar.specs.Bytes.{Bytes}
-use Rattle.tables.specs.Areas.{Areas, Outcome, readCall}
+use Rattle.tables.specs.Areas.{Areas, RuleTables, Outcome, readCall}
 use Rattle.tables.specs.Writing.{Written, writeCall}
 
 -- names and rules, cut to their stated sizes
 abbrev pub statedTables : Areas → Areas
 statedTables o =
     record { spellings = take nameArea (o .spellings); heads = take rules (o .heads); bodies = take bodyArea (o .bodies) }
+
+-- rules alone, cut so
+abbrev pub statedRules : RuleTables → RuleTables
+statedRules tables = record { heads = take rules (tables .heads); bodies = take bodyArea (tables .bodies) }
 
 -- areas s that were cut so, with what was cut off o put after
 abbrev pub tablesWithRest : Areas → Areas → Areas

@@ -14,7 +14,7 @@ use Rattle.grammar.specs.Bytes.{Bytes, colon, space, allOf}
 use Rattle.grammar.specs.Grammar.{Clause, mark, joined}
 use Rattle.tables.specs.Numbering.{sameBytes, namesOf}
 use Rattle.tables.specs.Reading.{Book}
-use Rattle.tables.specs.Areas.{Areas, short, filled, tablesOf, nonzero, nameAt, namesIn, rulesIn}
+use Rattle.tables.specs.Areas.{Areas, rulesOf, short, filled, tablesOf, nonzero, nameAt, namesIn, rulesIn}
 
 -- the names, each after a space
 unfoldable pub spacedOn : List Bytes → Bytes
@@ -76,7 +76,7 @@ wellFormed fold o n m =
     (leb n names && leb m rules)
     && ((every n (goodName fold (o .spellings)) && (different (o .spellings) n && zeroFrom (n * nameBytes) nameArea (o .spellings)))
     && ((zeroFrom m rules (o .heads) && zeroFrom (m * bodyWords) bodyArea (o .bodies))
-    && (orderly 0 (numbersIn (rulesIn o m)) && eqb (metIn 0 (numbersIn (rulesIn o m))) n)))
+    && (orderly 0 (numbersIn (rulesIn (rulesOf o) m)) && eqb (metIn 0 (numbersIn (rulesIn (rulesOf o) m))) n)))
 
 -- some book, of any length, reads to these tables
 pub record Readable (fold : ℕ → ℕ) (o : Areas) (n m : ℕ) : Type 0 where
@@ -104,5 +104,5 @@ unfoldable pub writeCall : (ℕ → ℕ) → Areas → ℕ → ℕ → Bytes →
 writeCall fold o n m area =
     pick (short o || ltb (length area) textBytes) (record { number = 1; size = 0; text = area })
     (pick (wellFormed fold o n m)
-    (placed (written (namesIn (o .spellings) n) (rulesIn o m)) area)
+    (placed (written (namesIn (o .spellings) n) (rulesIn (rulesOf o) m)) area)
     (record { number = 10; size = 0; text = area }))

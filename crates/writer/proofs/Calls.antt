@@ -2,7 +2,6 @@
 -- Assumes nothing.
 use mathlib.Core.Path.{_≡_, sym, ap, ap₂, subst, _∙_}
 use mathlib.Core.Bool.{Bool, true, false, not, _||_}
-use mathlib.Core.List.{List}
 use Prim.Native.Nat.{ℕ, _≤_, _<_}
 use native.Mathlib.Omega.{arith}
 use lib.Dec.{ltb}
@@ -10,14 +9,12 @@ use lib.ListN.{length}
 use borrow.Author.Tests.{ltb-false, lt-ltb, le-ltb, not-true, not-false}
 use Rattle.limits.specs.Book.{textBytes, names, nameArea, rules, bodyArea}
 use Rattle.sets.proofs.Logic.{or-left, or-right, or-none, pick-true, pick-false}
-use Rattle.program.specs.Program.{Rule}
 use Rattle.rows.specs.Clear.{cleared}
 use Rattle.grammar.specs.Bytes.{Bytes}
-use Rattle.tables.specs.Areas.{Areas, short, namesIn, rulesIn, rulesOnly}
+use Rattle.tables.specs.Areas.{Areas, rulesOf, short, namesIn, rulesIn}
 use Rattle.tables.specs.Begun.{begun}
 use Rattle.tables.specs.Writing.{written, wellFormed, placed, writeCall}
 use Rattle.tables.proofs.Encoding.{length-begun, begun-filled}
-use Rattle.tablecheck.proofs.Meeting.{rules-only}
 use Rattle.tablecheck.proofs.Formed.{few}
 use Rattle.writer.specs.Short.{shortWrite}
 
@@ -66,7 +63,7 @@ module _ (fold : ℕ → ℕ) (o : Areas) (n m : ℕ) (area : Bytes) (low : Bool
     (e : low ≡ shortWrite (length (o .spellings)) (length (o .heads)) (length (o .bodies)) (length area)) where
   -- the text of the tables
   abbrev book : Bytes
-  book = written (namesIn (o .spellings) n) (rulesIn (rulesOnly (o .heads) (o .bodies)) m)
+  book = written (namesIn (o .spellings) n) (rulesIn (rulesOf o) m)
 
   -- an area too short: 1
   pub call-short : low ≡ true → record { number = 1; size = 0; text = area } ≡ writeCall fold o n m area
@@ -83,9 +80,7 @@ module _ (fold : ℕ → ℕ) (o : Areas) (n m : ℕ) (area : Bytes) (low : Bool
       -- tables in order: their text is placed
       formed : placed book area ≡ writeCall fold o n m area
       unfolding writeCall short shortWrite
-      formed =
-          ap (λ (rs : List (Rule ℕ)). placed (written (namesIn (o .spellings) n) rs) area) (rules-only o m 0)
-          ∙ sym (pick-false _ _ (sym e ∙ f) ∙ pick-true _ _ (sym g ∙ not-false ok h))
+      formed = sym (pick-false _ _ (sym e ∙ f) ∙ pick-true _ _ (sym g ∙ not-false ok h))
 
       -- a text too long: 12
       pub call-long : textBytes < size → record { number = 12; size = 0; text = area } ≡ writeCall fold o n m area

@@ -10,7 +10,7 @@ use Rattle.sets.specs.Set.{next}
 use Rattle.words.specs.Row.{row, part}
 use Rattle.grammar.specs.Bytes.{Bytes, colon, lineEnd}
 use Rattle.grammar.specs.Grammar.{mark, joined}
-use Rattle.tables.specs.Areas.{Areas, nameAt, namesIn, ruleAt, rulesIn, rulesOnly}
+use Rattle.tables.specs.Areas.{RuleTables, ruleTables, nameAt, namesIn, ruleAt, rulesIn}
 use Rattle.tables.specs.Writing.{ruleText, written}
 use Rattle.tables.proofs.Encoding.{name-fits}
 use Rattle.writer.specs.Spelt.{nameSpelt, restOf}
@@ -53,7 +53,7 @@ module _ (area : Bytes) (n : ℕ) (bodies : List ℕ) (at : ℕ) where
 module _ (area : Bytes) (n : ℕ) (heads bodies : List ℕ) (j at a h : ℕ)
     (p : at ≡ j * bodyWords) (e : a ≡ next names (row (part at bodyWords bodies)) 0) (q : h ≡ length (nameSpelt area n (getD heads j 0))) where
   -- an empty body
-  pub rule-bare : names ≤ a → h + 1 ≡ length (ruleText (namesIn area n) (ruleAt (rulesOnly heads bodies) j))
+  pub rule-bare : names ≤ a → h + 1 ≡ length (ruleText (namesIn area n) (ruleAt (ruleTables heads bodies) j))
   rule-bare l =
       omega (
         arith,
@@ -64,7 +64,7 @@ module _ (area : Bytes) (n : ℕ) (heads bodies : List ℕ) (j at a h : ℕ)
 
   -- a first name and the rest
   pub rule-full : (k r : ℕ) → a < names → k ≡ length (nameSpelt area n a) → r ≡ length (restOf area n bodies at (a + 1))
-      → ((h + 1) + k) + r ≡ length (ruleText (namesIn area n) (ruleAt (rulesOnly heads bodies) j))
+      → ((h + 1) + k) + r ≡ length (ruleText (namesIn area n) (ruleAt (ruleTables heads bodies) j))
   rule-full k r l u v =
       omega (
         arith,
@@ -75,18 +75,23 @@ module _ (area : Bytes) (n : ℕ) (heads bodies : List ℕ) (j at a h : ℕ)
       )
 
 -- rule after rule, t bytes in all
-module _ (ns : List Bytes) (o : Areas) (m : ℕ) where
+module _ (ns : List Bytes) (tables : RuleTables) (m : ℕ) where
   -- the mark
-  pub text-start : length mark + length (linesFrom ns o m 0) ≡ length (written ns (rulesIn o m))
+  pub text-start : length mark + length (linesFrom ns tables m 0) ≡ length (written ns (rulesIn tables m))
   text-start =
-      omega (arith, ap length (written-is ns o m), ap length (lines-start ns o m), length-append mark (joined (map (ruleText ns) (rulesIn o m))))
+      omega (
+        arith,
+        ap length (written-is ns tables m),
+        ap length (lines-start ns tables m),
+        length-append mark (joined (map (ruleText ns) (rulesIn tables m))),
+      )
 
   -- a rule and its line end
-  pub text-on : (t len j k : ℕ) → len + length (linesFrom ns o m j) ≡ t → j < m → k ≡ length (ruleText ns (ruleAt o j))
-      → (len + (k + 1)) + length (linesFrom ns o m (j + 1)) ≡ t
+  pub text-on : (t len j k : ℕ) → len + length (linesFrom ns tables m j) ≡ t → j < m → k ≡ length (ruleText ns (ruleAt tables j))
+      → (len + (k + 1)) + length (linesFrom ns tables m (j + 1)) ≡ t
   text-on t len j k i l q =
-      omega (arith, ap length (lines-on ns o m j l), length-append (ruleText ns (ruleAt o j)) (lineEnd ∷ linesFrom ns o m (j + 1)))
+      omega (arith, ap length (lines-on ns tables m j l), length-append (ruleText ns (ruleAt tables j)) (lineEnd ∷ linesFrom ns tables m (j + 1)))
 
   -- past the last rule
-  pub text-end : (t len j : ℕ) → len + length (linesFrom ns o m j) ≡ t → m ≤ j → len ≡ t
-  text-end t len j i l = omega (arith, ap length (lines-end ns o m j l))
+  pub text-end : (t len j : ℕ) → len + length (linesFrom ns tables m j) ≡ t → m ≤ j → len ≡ t
+  text-end t len j i l = omega (arith, ap length (lines-end ns tables m j l))

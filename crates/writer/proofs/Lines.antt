@@ -11,7 +11,7 @@ use Rattle.sets.specs.Set.{next, members}
 use Rattle.words.specs.Row.{row, part}
 use Rattle.grammar.specs.Bytes.{Bytes, colon, space, lineEnd}
 use Rattle.grammar.specs.Grammar.{mark, joined}
-use Rattle.tables.specs.Areas.{Areas, nameAt, namesIn, ruleAt, rulesFrom, rulesIn, rulesOnly}
+use Rattle.tables.specs.Areas.{RuleTables, ruleTables, nameAt, namesIn, ruleAt, rulesFrom, rulesIn}
 use Rattle.tables.specs.Writing.{spacedOn, spaced, ruleText, written}
 use Rattle.tables.proofs.Encoding.{length-namesFrom, getD-namesFrom}
 use Rattle.tablecheck.proofs.Spelling.{name-part}
@@ -61,7 +61,7 @@ bodyText area n bodies j = spaced (map (nameSpelt area n) (members names (row (p
 
 -- a rule is its head, a colon and its body
 pub line : (area : Bytes) (n : ℕ) (heads bodies : List ℕ) (j : ℕ)
-    → ruleText (namesIn area n) (ruleAt (rulesOnly heads bodies) j) ≡ nameSpelt area n (getD heads j 0) ++ (colon ∷ bodyText area n bodies j)
+    → ruleText (namesIn area n) (ruleAt (ruleTables heads bodies) j) ≡ nameSpelt area n (getD heads j 0) ++ (colon ∷ bodyText area n bodies j)
 unfolding ruleText ruleAt nameSpelt bodyText
 line area n heads bodies j = refl
 
@@ -85,29 +85,29 @@ module _ (area : Bytes) (n : ℕ) (bodies : List ℕ) (j at a : ℕ) (p : at ≡
   body-full l = body ∙ ap (λ (xs : List ℕ). spaced (map (nameSpelt area n) xs)) (stop-here names (row (part at bodyWords bodies)) a l)
 
 -- the lines from rule j up to m
-unfoldable pub linesFrom : List Bytes → Areas → ℕ → ℕ → Bytes
-linesFrom ns o m j = joined (map (ruleText ns) (rulesFrom o (m - j) j))
+unfoldable pub linesFrom : List Bytes → RuleTables → ℕ → ℕ → Bytes
+linesFrom ns tables m j = joined (map (ruleText ns) (rulesFrom tables (m - j) j))
 
-module _ (ns : List Bytes) (o : Areas) (m : ℕ) where
+module _ (ns : List Bytes) (tables : RuleTables) (m : ℕ) where
   -- all of them
-  pub lines-start : joined (map (ruleText ns) (rulesIn o m)) ≡ linesFrom ns o m 0
+  pub lines-start : joined (map (ruleText ns) (rulesIn tables m)) ≡ linesFrom ns tables m 0
   unfolding linesFrom
-  lines-start = let e : m ≡ m - 0 = omega arith in ap (λ (k : ℕ). joined (map (ruleText ns) (rulesFrom o k 0))) e
+  lines-start = let e : m ≡ m - 0 = omega arith in ap (λ (k : ℕ). joined (map (ruleText ns) (rulesFrom tables k 0))) e
 
   -- the text is the mark and the lines
-  pub written-is : written ns (rulesIn o m) ≡ mark ++ joined (map (ruleText ns) (rulesIn o m))
+  pub written-is : written ns (rulesIn tables m) ≡ mark ++ joined (map (ruleText ns) (rulesIn tables m))
   unfolding written
   written-is = refl
 
   -- a rule, its end, and those after it
-  pub lines-on : (j : ℕ) → j < m → linesFrom ns o m j ≡ ruleText ns (ruleAt o j) ++ (lineEnd ∷ linesFrom ns o m (j + 1))
+  pub lines-on : (j : ℕ) → j < m → linesFrom ns tables m j ≡ ruleText ns (ruleAt tables j) ++ (lineEnd ∷ linesFrom ns tables m (j + 1))
   unfolding linesFrom joined rulesFrom
   lines-on j l =
       let e : m - j ≡ suc (m - (j + 1)) = omega arith in
-      ap (λ (k : ℕ). joined (map (ruleText ns) (rulesFrom o k j))) e
-      ∙ ap (λ (i : ℕ). ruleText ns (ruleAt o j) ++ (lineEnd ∷ joined (map (ruleText ns) (rulesFrom o (m - (j + 1)) i)))) (sym (add-one j))
+      ap (λ (k : ℕ). joined (map (ruleText ns) (rulesFrom tables k j))) e
+      ∙ ap (λ (i : ℕ). ruleText ns (ruleAt tables j) ++ (lineEnd ∷ joined (map (ruleText ns) (rulesFrom tables (m - (j + 1)) i)))) (sym (add-one j))
 
   -- none past the last
-  pub lines-end : (j : ℕ) → m ≤ j → linesFrom ns o m j ≡ []
+  pub lines-end : (j : ℕ) → m ≤ j → linesFrom ns tables m j ≡ []
   unfolding linesFrom joined rulesFrom
-  lines-end j l = let e : m - j ≡ 0 = omega arith in ap (λ (k : ℕ). joined (map (ruleText ns) (rulesFrom o k j))) e
+  lines-end j l = let e : m - j ≡ 0 = omega arith in ap (λ (k : ℕ). joined (map (ruleText ns) (rulesFrom tables k j))) e

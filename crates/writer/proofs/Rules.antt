@@ -11,7 +11,7 @@ use Rattle.words.specs.Row.{row, part, put}
 use Rattle.words.proofs.Areas.{length-put}
 use Rattle.grammar.specs.Bytes.{Bytes, colon, space, lineEnd}
 use Rattle.grammar.specs.Grammar.{mark, joined}
-use Rattle.tables.specs.Areas.{Areas, nameAt, namesIn, ruleAt, rulesIn, rulesOnly}
+use Rattle.tables.specs.Areas.{RuleTables, ruleTables, nameAt, namesIn, ruleAt, rulesIn}
 use Rattle.tables.specs.Begun.{begun}
 use Rattle.tables.specs.Writing.{ruleText, written}
 use Rattle.tables.proofs.Encoding.{name-fits}
@@ -96,9 +96,9 @@ module _ (area : Bytes) (n : ℕ) (bodies : List ℕ) (row′ from : ℕ) (old :
 
 -- rule j
 module _ (area : Bytes) (n : ℕ) (heads bodies : List ℕ) (j : ℕ) (old : Bytes) (at : ℕ)
-    (fits : at + length (ruleText (namesIn area n) (ruleAt (rulesOnly heads bodies) j)) ≤ length old) where
+    (fits : at + length (ruleText (namesIn area n) (ruleAt (ruleTables heads bodies) j)) ≤ length old) where
   abbrev whole : Bytes
-  whole = ruleText (namesIn area n) (ruleAt (rulesOnly heads bodies) j)
+  whole = ruleText (namesIn area n) (ruleAt (ruleTables heads bodies) j)
 
   -- there is room for the head
   pub head-room : at + length (nameSpelt area n (getD heads j 0)) ≤ length old
@@ -175,13 +175,14 @@ module _ (area : Bytes) (n : ℕ) (heads bodies : List ℕ) (j : ℕ) (old : Byt
             full-next = left-end old at whole fits _ new d full refl
 
 -- rule after rule
-module _ (ns : List Bytes) (o : Areas) (m : ℕ) (old : Bytes) (at : ℕ) (fits : at + length (joined (map (ruleText ns) (rulesIn o m))) ≤ length old) where
+module _ (ns : List Bytes) (tables : RuleTables) (m : ℕ) (old : Bytes) (at : ℕ)
+    (fits : at + length (joined (map (ruleText ns) (rulesIn tables m))) ≤ length old) where
   abbrev Text : ℕ → Bytes → ℕ → Type 0
-  Text j text i = Left old at (joined (map (ruleText ns) (rulesIn o m))) (linesFrom ns o m j) text i
+  Text j text i = Left old at (joined (map (ruleText ns) (rulesIn tables m))) (linesFrom ns tables m j) text i
 
   -- before the first rule
   pub lines-none : Text 0 old at
-  lines-none = left-as old at _ fits _ old at (left-start old at _ fits) _ (lines-start ns o m)
+  lines-none = left-as old at _ fits _ old at (left-start old at _ fits) _ (lines-start ns tables m)
 
   module _ (j : ℕ) (text : Bytes) (i : ℕ) (s : Text j text i) where
     -- the area is as long as it was
@@ -189,25 +190,27 @@ module _ (ns : List Bytes) (o : Areas) (m : ℕ) (old : Bytes) (at : ℕ) (fits 
     lines-length = left-length old at _ fits _ text i s
 
     -- past the last all are put
-    pub lines-done : m ≤ j → text ≡ put at (joined (map (ruleText ns) (rulesIn o m))) old
-    lines-done l = left-none old at _ fits _ text i s (lines-end ns o m j l)
+    pub lines-done : m ≤ j → text ≡ put at (joined (map (ruleText ns) (rulesIn tables m))) old
+    lines-done l = left-none old at _ fits _ text i s (lines-end ns tables m j l)
 
     module _ (l : j < m) where
       -- there is room for rule j
-      pub rule-room : i + length (ruleText ns (ruleAt o j)) ≤ length text
+      pub rule-room : i + length (ruleText ns (ruleAt tables j)) ≤ length text
       rule-room =
           omega (
             arith,
             left-room old at _ fits _ text i s,
-            ap length (lines-on ns o m j l),
-            length-append (ruleText ns (ruleAt o j)) (lineEnd ∷ linesFrom ns o m (j + 1)),
+            ap length (lines-on ns tables m j l),
+            length-append (ruleText ns (ruleAt tables j)) (lineEnd ∷ linesFrom ns tables m (j + 1)),
           )
 
       -- it is put, up to k
-      module _ (new : Bytes) (k : ℕ) (f : new ≡ put i (ruleText ns (ruleAt o j)) text) (g : k ≡ i + length (ruleText ns (ruleAt o j))) where
+      module _ (new : Bytes) (k : ℕ) (f : new ≡ put i (ruleText ns (ruleAt tables j)) text) (g : k ≡ i + length (ruleText ns (ruleAt tables j))) where
         -- what is left is its line end and the rules after it
-        ruled : Left old at (joined (map (ruleText ns) (rulesIn o m))) (lineEnd ∷ linesFrom ns o m (j + 1)) new k
-        ruled = left-on old at _ fits _ text i s (ruleText ns (ruleAt o j)) (lineEnd ∷ linesFrom ns o m (j + 1)) new k (lines-on ns o m j l) f g
+        ruled : Left old at (joined (map (ruleText ns) (rulesIn tables m))) (lineEnd ∷ linesFrom ns tables m (j + 1)) new k
+        ruled =
+            left-on old at _ fits _ text i s (ruleText ns (ruleAt tables j)) (lineEnd ∷ linesFrom ns tables m (j + 1)) new k
+            (lines-on ns tables m j l) f g
 
         -- there is room for its line end
         pub end-slot : k < length new
@@ -218,10 +221,10 @@ module _ (ns : List Bytes) (o : Areas) (m : ℕ) (old : Bytes) (at : ℕ) (fits 
         lines-more = left-byte old at _ fits _ new k ruled lineEnd _ refl
 
 -- the mark, then the rules
-module _ (ns : List Bytes) (o : Areas) (m : ℕ) (old : Bytes) (fits : length (written ns (rulesIn o m)) ≤ length old) where
+module _ (ns : List Bytes) (tables : RuleTables) (m : ℕ) (old : Bytes) (fits : length (written ns (rulesIn tables m)) ≤ length old) where
   -- there is room for both
-  room : length mark + length (joined (map (ruleText ns) (rulesIn o m))) ≤ length old
-  room = omega (arith, ap length (written-is ns o m), length-append mark (joined (map (ruleText ns) (rulesIn o m))))
+  room : length mark + length (joined (map (ruleText ns) (rulesIn tables m))) ≤ length old
+  room = omega (arith, ap length (written-is ns tables m), length-append mark (joined (map (ruleText ns) (rulesIn tables m))))
 
   -- there is room for the mark
   pub mark-room : 0 + length mark ≤ length old
@@ -233,16 +236,16 @@ module _ (ns : List Bytes) (o : Areas) (m : ℕ) (old : Bytes) (fits : length (w
     mark-length = ap length f ∙ length-put 0 mark old mark-room
 
     -- and for the rules after it
-    pub lines-room : k + length (joined (map (ruleText ns) (rulesIn o m))) ≤ length text
+    pub lines-room : k + length (joined (map (ruleText ns) (rulesIn tables m))) ≤ length text
     lines-room = omega (arith, room, mark-length)
 
     -- both are put
-    pub text-done : (new : Bytes) → new ≡ put k (joined (map (ruleText ns) (rulesIn o m))) text → new ≡ begun (written ns (rulesIn o m)) old
+    pub text-done : (new : Bytes) → new ≡ put k (joined (map (ruleText ns) (rulesIn tables m))) text → new ≡ begun (written ns (rulesIn tables m)) old
     unfolding begun
     text-done new q =
         let l : 0 ≤ length old = omega arith in
-        let e : 0 + length (written ns (rulesIn o m)) ≡ length (written ns (rulesIn o m)) = omega arith in
-        q ∙ ap₂ (λ (i : ℕ) (t : Bytes). put i (joined (map (ruleText ns) (rulesIn o m))) t) g f
-        ∙ put-put 0 mark (joined (map (ruleText ns) (rulesIn o m))) old l
-        ∙ ap (λ (w : Bytes). put 0 w old) (sym (written-is ns o m))
-        ∙ ap (λ (i : ℕ). written ns (rulesIn o m) ++ drop i old) e
+        let e : 0 + length (written ns (rulesIn tables m)) ≡ length (written ns (rulesIn tables m)) = omega arith in
+        q ∙ ap₂ (λ (i : ℕ) (t : Bytes). put i (joined (map (ruleText ns) (rulesIn tables m))) t) g f
+        ∙ put-put 0 mark (joined (map (ruleText ns) (rulesIn tables m))) old l
+        ∙ ap (λ (w : Bytes). put 0 w old) (sym (written-is ns tables m))
+        ∙ ap (λ (i : ℕ). written ns (rulesIn tables m) ++ drop i old) e

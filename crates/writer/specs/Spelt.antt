@@ -8,7 +8,7 @@ use Rattle.sets.specs.Set.{members}
 use Rattle.words.specs.Row.{row, part}
 use Rattle.grammar.specs.Bytes.{Bytes}
 use Rattle.grammar.specs.Grammar.{joined}
-use Rattle.tables.specs.Areas.{namesIn, ruleAt, rulesIn, rulesOnly}
+use Rattle.tables.specs.Areas.{ruleTables, namesIn, ruleAt, rulesIn}
 use Rattle.tables.specs.Writing.{spacedOn, ruleText, written}
 
 -- name a of the first n, nothing where a is not below n
@@ -21,15 +21,15 @@ restOf area n bodies at a = spacedOn (map (nameSpelt area n) (members (names - a
 
 -- rule j of heads and bodies as its line has it
 abbrev pub lineOf : Bytes → List ℕ → List ℕ → ℕ → ℕ → Bytes
-lineOf area heads bodies n j = ruleText (namesIn area n) (ruleAt (rulesOnly heads bodies) j)
+lineOf area heads bodies n j = ruleText (namesIn area n) (ruleAt (ruleTables heads bodies) j)
 
 -- the lines of the first m rules, each with its end
 abbrev pub ruleLines : Bytes → List ℕ → List ℕ → ℕ → ℕ → Bytes
-ruleLines area heads bodies n m = joined (map (ruleText (namesIn area n)) (rulesIn (rulesOnly heads bodies) m))
+ruleLines area heads bodies n m = joined (map (ruleText (namesIn area n)) (rulesIn (ruleTables heads bodies) m))
 
 -- the whole text
 abbrev pub textIn : Bytes → List ℕ → List ℕ → ℕ → ℕ → Bytes
-textIn area heads bodies n m = written (namesIn area n) (rulesIn (rulesOnly heads bodies) m)
+textIn area heads bodies n m = written (namesIn area n) (rulesIn (ruleTables heads bodies) m)
 
 -- no line is longer
 abbrev pub lineBytes : ℕ

@@ -1,7 +1,7 @@
 -- `tablecheck::order::in_order` meets its contract. The loop's invariant: the numbers of the rules left decide. Assumes nothing.
 use mathlib.Core.Path.{_≡_}
 use Prim.Native.Nat.{_-_, _≤_}
-use Rattle.tables.specs.Areas.{rulesFrom, rulesIn, rulesOnly}
+use Rattle.tables.specs.Areas.{ruleTables, rulesFrom, rulesIn}
 use Rattle.tables.specs.Writing.{numbersIn}
 use Rattle.tablecheck.specs.Order.{headEnd, counted}
 use Rattle.tablecheck.proofs.Meeting.{rules-start, rules-off, rules-on, rules-end}
@@ -12,7 +12,7 @@ use Rattle.tablecheck.proofs.order.in_order.Tie as tie
 abbrev Inv-loop : tie.InvT-loop
 Inv-loop heads bodies n m met₀ j₀ met j =
     (j ≤ m) × (met ≤ headEnd) ×
-    (counted met (numbersIn (rulesFrom (rulesOnly heads bodies) (m - j) j)) ≡ counted 0 (numbersIn (rulesIn (rulesOnly heads bodies) m)))
+    (counted met (numbersIn (rulesFrom (ruleTables heads bodies) (m - j) j)) ≡ counted 0 (numbersIn (rulesIn (ruleTables heads bodies) m)))
 
 abbrev μ-loop : tie.MeasureT-loop
 μ-loop heads bodies n m met₀ j₀ met j = m - j

@@ -5,7 +5,7 @@ use Prim.Native.Nat.{_+_, _-_, _*_, _≤_}
 use Rattle.limits.specs.Book.{names, bodyWords}
 use Rattle.sets.proofs.Walk.{walk-range}
 use Rattle.words.specs.Row.{row, part}
-use Rattle.tables.specs.Areas.{ruleAt, rulesOnly}
+use Rattle.tables.specs.Areas.{ruleTables, ruleAt}
 use Rattle.tables.specs.Writing.{numbersOf}
 use Rattle.tablecheck.specs.Order.{headEnd, counted}
 use Rattle.tablecheck.proofs.Walks.{onward}
@@ -17,7 +17,7 @@ use Rattle.tablecheck.proofs.order.rule_order.Tie as tie
 abbrev Inv-loop : tie.InvT-loop
 Inv-loop heads bodies j met head count₀ at a₀ count a =
     (a ≤ names) × (count ≤ headEnd) × (at ≡ j * bodyWords) ×
-    (counted count (onward names (row (part at bodyWords bodies)) a) ≡ counted met (numbersOf (ruleAt (rulesOnly heads bodies) j)))
+    (counted count (onward names (row (part at bodyWords bodies)) a) ≡ counted met (numbersOf (ruleAt (ruleTables heads bodies) j)))
 
 abbrev μ-loop : tie.MeasureT-loop
 μ-loop heads bodies j met head count₀ at a₀ count a = names - a

@@ -1,5 +1,5 @@
 -- `writer::put::put_text` meets its contract. The mark, then the lines. Assumes nothing.
-use Rattle.tables.specs.Areas.{namesIn, rulesOnly}
+use Rattle.tables.specs.Areas.{ruleTables, namesIn}
 use Rattle.writer.proofs.Rules.{mark-room, lines-room, text-done}
 use borrow.Author.Needs.{needs}
 use Rattle.writer.proofs.put.put_text.Statement.{statement}
@@ -8,7 +8,7 @@ use Rattle.writer.proofs.put.put_text.Tie as tie
 copy-requires : tie.Need-copy-requires
 copy-requires c κs =
     let a = c .before .before .before .before .before .before .args in
-    mark-room (namesIn (a .spellings .now) (a .n)) (rulesOnly (a .heads .now) (a .bodies .now)) (a .m) (a .text .now)
+    mark-room (namesIn (a .spellings .now) (a .n)) (ruleTables (a .heads .now) (a .bodies .now)) (a .m) (a .text .now)
     (c .before .before .before .before .before .before .pre .1)
 
 put-rules-requires : tie.Need-put-rules-requires
@@ -16,14 +16,14 @@ put-rules-requires c κs =
     let a = c .before .before .before .before .before .before .before .before .before .before .args in
     let p = c .before .before .before .before .before .before .before .before .before .before .pre in (
       p .0,
-      lines-room (namesIn (a .spellings .now) (a .n)) (rulesOnly (a .heads .now) (a .bodies .now)) (a .m) (a .text .now) (p .1) _ _
+      lines-room (namesIn (a .spellings .now) (a .n)) (ruleTables (a .heads .now) (a .bodies .now)) (a .m) (a .text .now) (p .1) _ _
           (c .before .before .before .copy .ensures .1) (c .before .before .before .copy .ensures .0),
     )
 
 returns : tie.Need-returns
 returns c =
     let a = c .before .before .before .before .before .before .before .before .before .before .before .before .before .args in
-    text-done (namesIn (a .spellings .now) (a .n)) (rulesOnly (a .heads .now) (a .bodies .now)) (a .m) (a .text .now)
+    text-done (namesIn (a .spellings .now) (a .n)) (ruleTables (a .heads .now) (a .bodies .now)) (a .m) (a .text .now)
     (c .before .before .before .before .before .before .before .before .before .before .before .before .before .pre .1) _ _
     (c .before .before .before .before .before .before .copy .ensures .1)
     (c .before .before .before .before .before .before .copy .ensures .0) _ (c .before .before .put-rules .ensures)
