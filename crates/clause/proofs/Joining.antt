@@ -3,7 +3,7 @@
 use mathlib.Core.Path.{_≡_, refl, sym, ap, _∙_, subst}
 use mathlib.Core.Bool.{Bool, true, false, _||_, or-assoc, or-false}
 use mathlib.Core.List.{List, [], _∷_, _++_}
-use Prim.Native.Nat.{ℕ, _≤_, _<_}
+use Prim.Native.Nat.{ℕ, _<_}
 use native.Mathlib.Omega.{arith}
 use lib.Dec.{eqb, leb}
 use lib.ListN.{length}
@@ -11,11 +11,12 @@ use borrow.Author.Tests.{leb-true, leb-false, le-leb, lt-leb}
 use Rattle.limits.specs.Book.{names, bodyWords}
 use Rattle.sets.specs.Set.{Set, only, union}
 use Rattle.sets.proofs.Logic.{either, clash}
-use Rattle.words.specs.Row.{row, part, pack, put}
+use Rattle.areas.specs.Area.{part, put}
+use Rattle.words.specs.Row.{row, pack}
 use Rattle.grammar.specs.Bytes.{Bytes}
 use Rattle.tables.specs.Numbering.{place, meet, meetAll, places}
 use Rattle.tables.proofs.Numbering.{meet-met, meets-le, meets-keep, meets-met, meets-append, places-same}
-use Rattle.clause.specs.Found.{Kept, Lexicon, namesAt, Named, InOrder, Meeting, Joining, Onward}
+use Rattle.clause.specs.Found.{Lexicon, namesAt, Named, InOrder, Meeting, Joining, Onward}
 use Rattle.clause.proofs.Rows.{row-same, row-more}
 
 -- the numbers of two runs of names

@@ -2,17 +2,17 @@
 -- Assumes nothing.
 use mathlib.Core.Path.{_≡_, refl, sym, ap, ap₂, _∙_, subst, subst₂}
 use mathlib.Core.Bool.{true, false}
-use mathlib.Core.Logic.{_⊎_, inl, inr, ⊎-elim}
+use mathlib.Core.Logic.{_⊎_, inl}
 use mathlib.Core.List.{List, [], _∷_, _++_, map}
 use Prim.Native.Nat.{ℕ, _+_, _*_, _-_, _≤_, _<_}
 use native.Mathlib.Omega.{arith}
 use lib.Dec.{eqb}
 use lib.ListN.{length, getD, take, drop, set, length-append, length-drop}
-use lib.Seq.{drop-append-seam}
-use borrow.Author.Tests.{eqb-true, eq-eqb, le-leb, lt-leb}
+use borrow.Author.Tests.{le-leb, lt-leb}
 use Rattle.limits.specs.Book.{names, nameBytes, nameArea}
 use Rattle.sets.proofs.Logic.{clash, pick-true, pick-false}
-use Rattle.words.specs.Row.{put}
+use Rattle.areas.specs.Area.{put, begun}
+use Rattle.areas.proofs.Begun.{begun-again}
 use Rattle.grammar.specs.Bytes.{Bytes, Folding, nameByte}
 use Rattle.grammar.specs.Lines.{span, isName}
 use Rattle.grammar.proofs.Spans.{span-le}
@@ -20,10 +20,9 @@ use Rattle.scan.specs.Hash.{hashOf}
 use Rattle.scan.specs.Places.{nameFolded}
 use Rattle.tables.specs.Numbering.{place, meet}
 use Rattle.tables.specs.Areas.{padded, nameRows, namesIn}
-use Rattle.tables.specs.Begun.{begun}
 use Rattle.tables.proofs.Numbering.{place-le, place-new, meet-known, meet-new, by-place}
 use Rattle.lexicon.specs.Index.{Indexed, NameAt, wordAt, noneAdded, entered, enteredArea}
-use Rattle.lexicon.proofs.Entering.{settled-name, settled-full, settled-new, kept-area, kept-index, new-area, new-index, entered-length, entered-past, entered-names, entered-begun, entered-fine}
+use Rattle.lexicon.proofs.Entering.{settled-name, settled-new, kept-area, kept-index, new-area, new-index, entered-length, entered-past, entered-names, entered-begun, entered-fine}
 use Rattle.lexicon.proofs.Entering.{entered-meet, meet-fits, meet-over}
 use Rattle.lexicon.proofs.Spelling.{word-fine}
 use Rattle.clause.proofs.Forms.{name-long}
@@ -38,11 +37,6 @@ module _ (ns : List Bytes) (w : Bytes) where
   more-count : noneAdded ns w ≡ false → length (entered ns w) ≡ length ns + 1
   unfolding entered
   more-count e = ap length (pick-false ns (ns ++ (w ∷ [])) e) ∙ length-append ns (w ∷ [])
-
--- rows begun stay begun
-pub begun-again : (xs old : List ℕ) → begun xs (begun xs old) ≡ begun xs old
-unfolding begun
-begun-again xs old = ap (λ (r : List ℕ). xs ++ r) (drop-append-seam xs (drop (length xs) old))
 
 -- a name keeps its number when it is met
 pub place-meet : (ns : List Bytes) (w : Bytes) → place (meet ns w) w ≡ place ns w

@@ -7,9 +7,10 @@ use Prim.Native.Nat.{ℕ}
 use lib.ListN.{length, replicate}
 use Rattle.limits.specs.Book.{bodyWords}
 use Rattle.sets.specs.Set.{Set, emptySet, only, union}
-use Rattle.words.specs.Row.{row, part, pack, put}
+use Rattle.areas.specs.Area.{part, put}
+use Rattle.words.specs.Row.{row, pack}
 use Rattle.words.proofs.Rows.{length-pack, row-pack, pack-same, pack-empty}
-use Rattle.words.proofs.Areas.{part-whole, put-whole}
+use Rattle.areas.proofs.Parts.{part-whole, put-whole}
 use Rattle.clause.specs.Found.{Kept}
 
 -- nothing changed

@@ -16,7 +16,7 @@ use Rattle.scan.specs.Hash.{hashOf}
 use Rattle.scan.specs.Places.{pastAt, nameRun, nameFolded}
 use Rattle.tables.specs.Numbering.{place, meet, meetAll, places}
 use Rattle.tables.specs.Areas.{nameRows, nonzero, namesIn}
-use Rattle.tables.specs.Begun.{begun}
+use Rattle.areas.specs.Area.{begun}
 use Rattle.lexicon.specs.Index.{Indexed}
 use Rattle.clause.specs.Line.{formFrom, wordsAt, wordsFolded, faultOf}
 

@@ -1,14 +1,13 @@
 -- A line put at the front of an area part by part, and then its end.
 -- Assumes nothing.
-use mathlib.Core.Path.{_≡_, refl, sym, ap, _∙_}
+use mathlib.Core.Path.{_≡_, refl, ap, _∙_}
 use mathlib.Core.List.{[], _∷_, _++_}
 use Prim.Native.Nat.{ℕ, _+_, _≤_, _<_}
 use native.Mathlib.Nat.{zero-add}
 use native.Mathlib.Omega.{arith}
 use lib.ListN.{length, drop, set, length-append}
-use Rattle.words.specs.Row.{put}
+use Rattle.areas.specs.Area.{put, begun}
 use Rattle.grammar.specs.Bytes.{Bytes, lineEnd}
-use Rattle.tables.specs.Begun.{begun}
 use Rattle.copying.proofs.Putting.{Left, left-length, left-room, left-on, left-byte, left-as, left-none, left-end, left-start}
 
 -- of the line and its end, put at the front of old, `next` and then `rest` are left to put from place i of text on

@@ -8,12 +8,11 @@ use native.Mathlib.Numerals.{add-one}
 use native.Mathlib.Omega.{arith}
 use lib.ListN.{length, getD, take, drop, set, length-append, take-append-drop}
 use lib.Seq.{set-split, length-take-le}
-use Rattle.words.specs.Row.{part, put}
-use Rattle.words.proofs.Areas.{part-whole, length-put}
+use Rattle.areas.specs.Area.{part, put, begun}
+use Rattle.areas.proofs.Parts.{part-whole, length-put}
+use Rattle.areas.proofs.Begun.{put-begun}
 use Rattle.rows.proofs.Writing.{copy-none, copy-on, copy-all}
 use Rattle.grammar.specs.Bytes.{Bytes}
-use Rattle.tables.specs.Begun.{begun}
-use Rattle.tables.proofs.Encoding.{put-begun}
 
 -- of the whole text, put from place `at` of old on, `rest` is left to put from place i of text on
 pub record Left (old : Bytes) (at : ℕ) (whole rest text : Bytes) (i : ℕ) : Type 0 where

@@ -2,7 +2,7 @@
 ghost use mathlib.Core.Path.{_≡_};
 ghost use Prim.Native.Nat.{_+_, _≤_};
 ghost use lib.ListN.{length};
-ghost use Rattle.words.specs.Row.{put};
+ghost use Rattle.areas.specs.Area.{put};
 
 // Copies all of src to place `at` of the area, and returns the place after it.
 pub fn copy(src: &[u8], area: &mut [u8], at: usize) -> usize

@@ -4,7 +4,7 @@ use mathlib.Core.Path.{_≡_, refl}
 use mathlib.Core.List.{[], _∷_, _++_, append-assoc}
 use Prim.Native.Nat.{ℕ, _+_, _≤_}
 use lib.ListN.{length}
-use Rattle.words.specs.Row.{put}
+use Rattle.areas.specs.Area.{put}
 use Rattle.grammar.specs.Bytes.{Bytes, bytes, lineEnd}
 use Rattle.copying.proofs.Line.{LineLeft, line-start, part-put}
 use Rattle.solving.specs.Listing.{decimal}

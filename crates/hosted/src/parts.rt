@@ -6,7 +6,7 @@ ghost use mathlib.Core.List.{[], _∷_, _++_};
 ghost use Prim.Native.Nat.{_+_, _≤_};
 ghost use lib.ListN.{length};
 ghost use Rattle.grammar.specs.Bytes.{lineEnd};
-ghost use Rattle.tables.specs.Begun.{begun};
+ghost use Rattle.areas.specs.Area.{begun};
 ghost use Rattle.hosting.specs.Print.{refusalLine};
 
 // Puts the line of a refusal with its end at the front of the area, and returns the place after it.

@@ -3,7 +3,7 @@
 use mathlib.Core.Path.{_≡_, refl, sym, ap, ap₂, _∙_}
 use mathlib.Core.Logic.{⊎-elim}
 use mathlib.Core.Bool.{true}
-use mathlib.Core.List.{[], _∷_, _++_, append-nil}
+use mathlib.Core.List.{[], _∷_, _++_}
 use Prim.Native.Nat.{ℕ, suc, _+_, _-_, _≤_}
 use native.Mathlib.Omega.{arith}
 use lib.Dec.{eqb}
@@ -12,15 +12,14 @@ use borrow.Author.Tests.{eqb-true, eqb-false}
 use Rattle.limits.specs.Book.{folds, listingBytes}
 use Rattle.sets.proofs.Logic.{either}
 use Rattle.program.specs.System.{roundsOf, heldBy}
-use Rattle.rows.specs.Clear.{cleared}
 use Rattle.grammar.specs.Bytes.{Bytes, Folding, bytes, lineEnd, allOf}
 use Rattle.grammar.specs.Grammar.{joined}
-use Rattle.grammar.specs.Lines.{span}
 use Rattle.grammar.proofs.Spans.{all-both}
-use Rattle.tables.specs.Begun.{begun}
+use Rattle.areas.specs.Area.{begun, filled, cleared}
 use Rattle.tables.specs.Numbering.{namesOf}
-use Rattle.tables.specs.Areas.{filled, nonzero}
-use Rattle.tables.proofs.Encoding.{span-zeros, length-begun, begun-filled}
+use Rattle.tables.specs.Areas.{nonzero}
+use Rattle.areas.proofs.Begun.{length-begun}
+use Rattle.areas.proofs.Filled.{begun-filled}
 use Rattle.tables.proofs.Theorems.{read-fine}
 use Rattle.solving.specs.Listing.{decimal, listingLines, listed}
 use Rattle.solving.proofs.Decimal.{figures-short}

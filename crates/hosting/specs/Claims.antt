@@ -16,7 +16,8 @@ use Rattle.grammar.specs.Bytes.{Bytes, allOf, Among}
 use Rattle.grammar.specs.Grammar.{Clause, joined, Unbroken}
 use Rattle.tables.specs.Numbering.{place, namesOf, programOf}
 use Rattle.tables.specs.Reading.{Book, Refusal}
-use Rattle.tables.specs.Areas.{filled, nonzero}
+use Rattle.areas.specs.Area.{filled}
+use Rattle.tables.specs.Areas.{nonzero}
 use Rattle.solving.specs.Listing.{headLine}
 use Rattle.solving.specs.ListingClaims.{longestListing}
 use Rattle.solving.specs.Models.{InEveryModelOf}

@@ -13,7 +13,7 @@ use Rattle.grammar.specs.Bytes.{Bytes, bytes}
 use Rattle.grammar.specs.Grammar.{joined}
 use Rattle.tables.specs.Numbering.{namesOf, programOf}
 use Rattle.tables.specs.Reading.{Reading, read, refused, reading}
-use Rattle.tables.specs.Areas.{filled}
+use Rattle.areas.specs.Area.{filled}
 use Rattle.solving.specs.Listing.{decimal, listingLines}
 
 -- the line of a refusal

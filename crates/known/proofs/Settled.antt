@@ -14,8 +14,8 @@ use Rattle.grammar.specs.Grammar.{joined}
 use Rattle.grammar.specs.Lines.{span, grown, lines, goesOn, wordsOf, isName, allNames, fromColon, fromHead, starts, formOf}
 use Rattle.tables.specs.Numbering.{sameBytes, place, meet, meetAll, standing, namesOf, places, numbered, programOf}
 use Rattle.tables.specs.Reading.{lineCause, taken, readLines, bookOf, reading}
-use Rattle.tables.specs.Areas.{filled, padded, nameRows, headRows, bodyRows, filledWith, tablesOf, short, refusal, outcome, readCall, nonzero, nameAt, lookUp, ruleAt, rulesFrom}
-use Rattle.tables.specs.Begun.{begun}
+use Rattle.tables.specs.Areas.{padded, nameRows, headRows, bodyRows, filledWith, tablesOf, short, refusal, outcome, readCall, nonzero, nameAt, lookUp, ruleAt, rulesFrom}
+use Rattle.areas.specs.Area.{begun, filled}
 use Rattle.systems.specs.Rows.{packed}
 use Rattle.systems.specs.Rounds.{withModel}
 use Rattle.solving.specs.Plain.{plainOf}

@@ -11,7 +11,8 @@ use Rattle.sets.specs.Set.{Set, members}
 use Rattle.grammar.specs.Bytes.{Bytes, bytes, ourLetters}
 use Rattle.grammar.specs.Lines.{run, lines}
 use Rattle.tables.specs.Numbering.{sameBytes, place}
-use Rattle.tables.specs.Areas.{RuleTables, Counts, Outcome, rulesOf, filled, nonzero, lookUp, readCall}
+use Rattle.areas.specs.Area.{filled}
+use Rattle.tables.specs.Areas.{RuleTables, Counts, Outcome, rulesOf, nonzero, lookUp, readCall}
 use Rattle.systems.specs.Rows.{rowIn}
 use Rattle.systems.specs.Rounds.{modelIn}
 use Rattle.solving.specs.Plain.{PlainOutcome}

@@ -13,15 +13,15 @@ use borrow.Author.Tests.{eqb-true, eqb-false, le-leb, lt-leb, leb-true, leb-fals
 use Rattle.limits.specs.Book.{names, nameBytes, nameArea}
 use Rattle.sets.specs.Set.{pick}
 use Rattle.sets.proofs.Logic.{either, clash, or-left, or-right, pick-true, pick-false}
-use Rattle.words.specs.Row.{part, put}
-use Rattle.words.proofs.Areas.{length-put, part-put, part-put-before, part-put-after}
+use Rattle.areas.specs.Area.{part, put, begun}
+use Rattle.areas.proofs.Parts.{length-put, part-put, part-put-before, part-put-after}
+use Rattle.areas.proofs.Begun.{put-begun}
 use Rattle.grammar.specs.Bytes.{Bytes}
 use Rattle.grammar.specs.Lines.{run}
 use Rattle.tables.specs.Numbering.{sameBytes, place, meet}
 use Rattle.tables.specs.Areas.{padded, nameRows, nonzero, nameAt, namesIn}
-use Rattle.tables.specs.Begun.{begun}
 use Rattle.tables.proofs.Numbering.{meet-known, meet-new, by-place}
-use Rattle.tables.proofs.Encoding.{Fine, AllFine, AllFit, length-padded, length-nameRows, nameRows-append, run-padded, put-begun}
+use Rattle.tables.proofs.Encoding.{Fine, AllFine, AllFit, length-padded, length-nameRows, nameRows-append, run-padded}
 use Rattle.scan.specs.Hash.{buckets, hashOf}
 use Rattle.lexicon.specs.Index.{Indexed, latest, noneAdded, entered, enteredArea}
 use Rattle.lexicon.proofs.Chains.{names-length, names-at, hash-lt, place-none}

@@ -11,8 +11,8 @@ use lib.Seq.{getD-take, getD-drop, take-take}
 use borrow.Author.Tests.{eq-eqb, ne-eqb, lt-ltb, le-ltb, le-leb}
 use Rattle.limits.specs.Book.{names, nameBytes, nameArea}
 use Rattle.sets.proofs.Logic.{and-make, pick-true, pick-false}
-use Rattle.words.specs.Row.{part}
-use Rattle.words.proofs.Areas.{length-part}
+use Rattle.areas.specs.Area.{part}
+use Rattle.areas.proofs.Parts.{length-part}
 use Rattle.grammar.specs.Bytes.{Bytes}
 use Rattle.grammar.specs.Lines.{span}
 use Rattle.grammar.proofs.Spans.{span-le}

@@ -14,9 +14,8 @@ use borrow.Author.Tests.{eq-eqb, ne-eqb, eqb-true, eqb-false, leb-true}
 use Rattle.limits.specs.Book.{names, nameBytes, nameArea}
 use Rattle.sets.specs.Set.{pick}
 use Rattle.sets.proofs.Logic.{either, clash, and-left, and-right, and-make, of-not, or-left}
-use Rattle.words.specs.Row.{part, put}
-use Rattle.words.proofs.Areas.{length-part}
-use Rattle.rows.specs.Clear.{cleared}
+use Rattle.areas.specs.Area.{part, put, cleared}
+use Rattle.areas.proofs.Parts.{length-part}
 use Rattle.grammar.specs.Bytes.{Bytes, Folding, blank, reserved, nameByte, allOf}
 use Rattle.grammar.specs.Lines.{span, run, isName}
 use Rattle.grammar.proofs.Words.{name-bytes}

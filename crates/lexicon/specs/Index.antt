@@ -8,7 +8,7 @@ use lib.Dec.{eqb, leb, ltb}
 use lib.ListN.{length, getD}
 use Rattle.limits.specs.Book.{names, nameBytes}
 use Rattle.sets.specs.Set.{pick}
-use Rattle.words.specs.Row.{part, put}
+use Rattle.areas.specs.Area.{part, put}
 use Rattle.grammar.specs.Bytes.{Bytes}
 use Rattle.grammar.specs.Lines.{isName}
 use Rattle.tables.specs.Numbering.{sameBytes, place}

@@ -8,7 +8,7 @@ ghost use mathlib.Core.Path.{_≡_};
 ghost use Prim.Native.Nat.{_+_, _*_, _<_, _≤_};
 ghost use lib.ListN.{length, getD, set};
 ghost use Rattle.limits.specs.Book.{names, nameBytes, nameArea};
-ghost use Rattle.words.specs.Row.{put};
+ghost use Rattle.areas.specs.Area.{put};
 ghost use Rattle.grammar.specs.Bytes.{letters};
 ghost use Rattle.scan.specs.Fold.{FoldTable};
 ghost use Rattle.scan.specs.Hash.{buckets, hashOf};

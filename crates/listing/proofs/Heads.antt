@@ -5,7 +5,7 @@ use mathlib.Core.List.{[], _∷_, _++_, append-nil, append-assoc}
 use Prim.Native.Nat.{ℕ, _+_, _≤_}
 use native.Mathlib.Omega.{arith}
 use lib.ListN.{length, length-append}
-use Rattle.words.specs.Row.{put}
+use Rattle.areas.specs.Area.{put}
 use Rattle.grammar.specs.Bytes.{Bytes, bytes, lineEnd}
 use Rattle.copying.proofs.Putting.{Left, left-start, left-room, left-on, left-none, left-end}
 use Rattle.copying.proofs.Line.{LineLeft, line-start, part-put}

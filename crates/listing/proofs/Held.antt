@@ -13,7 +13,8 @@ use Rattle.limits.specs.Book.{names, wordBits, rowWords}
 use Rattle.sets.specs.Set.{count}
 use Rattle.sets.proofs.Ranges.{count-add}
 use Rattle.sets.proofs.Counting.{count-le, count-same}
-use Rattle.words.specs.Row.{bit, row, part}
+use Rattle.areas.specs.Area.{part}
+use Rattle.words.specs.Row.{bit, row}
 use Rattle.words.proofs.Bits.{ones-count}
 use Rattle.words.proofs.Rows.{row-word, row-part}
 use Rattle.rows.proofs.Reading.{word-of}

@@ -13,7 +13,7 @@ use Rattle.limits.specs.Book.{names, nameArea}
 use Rattle.sets.specs.Set.{Set, next, members}
 use Rattle.sets.proofs.Logic.{and-make, pick-true, pick-false}
 use Rattle.sets.proofs.Walk.{next-spec, walk-range, none-between}
-use Rattle.words.specs.Row.{put}
+use Rattle.areas.specs.Area.{put}
 use Rattle.grammar.specs.Bytes.{Bytes, lineEnd}
 use Rattle.grammar.specs.Grammar.{joined}
 use Rattle.tables.specs.Areas.{nameAt, namesIn, lookUp}

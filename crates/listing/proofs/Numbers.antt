@@ -5,7 +5,7 @@ use mathlib.Core.List.{[], _∷_}
 use Prim.Native.Nat.{ℕ, _+_, _/_, _%_, _≤_, _<_}
 use native.Mathlib.Omega.{arith}
 use lib.ListN.{length, set, length-append}
-use Rattle.words.specs.Row.{put}
+use Rattle.areas.specs.Area.{put}
 use Rattle.grammar.specs.Bytes.{Bytes}
 use Rattle.copying.proofs.Putting.{Left, byte-put, left-start, left-room, left-on, left-byte, left-none, left-end}
 use Rattle.solving.specs.Listing.{figure, decimal}

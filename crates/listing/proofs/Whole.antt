@@ -7,16 +7,16 @@ use native.Mathlib.Omega.{arith}
 use lib.ListN.{length, getD, drop, length-append, length-take}
 use Rattle.limits.specs.Book.{names, nameBytes, atoms, folds, listingBytes}
 use Rattle.sets.specs.Set.{Set, count}
-use Rattle.words.specs.Row.{part, put}
-use Rattle.words.proofs.Areas.{length-put}
+use Rattle.areas.specs.Area.{part, put, begun, filled, cleared}
+use Rattle.areas.proofs.Parts.{length-put}
+use Rattle.areas.proofs.Begun.{length-begun, put-begun}
+use Rattle.areas.proofs.Filled.{begun-filled}
 use Rattle.grammar.specs.Bytes.{Bytes, lineEnd}
 use Rattle.grammar.specs.Grammar.{joined}
 use Rattle.grammar.specs.Lines.{run, past}
 use Rattle.grammar.proofs.Spans.{run-past}
-use Rattle.tables.specs.Areas.{filled, nonzero, nameAt, namesIn}
-use Rattle.tables.specs.Begun.{begun}
-use Rattle.tables.proofs.Encoding.{length-namesFrom, getD-namesFrom, length-begun, put-begun, begun-filled}
-use Rattle.rows.specs.Clear.{cleared}
+use Rattle.tables.specs.Areas.{nonzero, nameAt, namesIn}
+use Rattle.tables.proofs.Encoding.{length-namesFrom, getD-namesFrom}
 use Rattle.solving.specs.Listing.{headLine, heldNames, listingLines, listed}
 use Rattle.solving.proofs.Decimal.{listing-fits}
 use Rattle.listing.specs.Write.{Listing, listingOf}

@@ -5,9 +5,8 @@ ghost use mathlib.Core.Path.{_≡_};
 ghost use mathlib.Core.List.{[], _∷_, _++_};
 ghost use Prim.Native.Nat.{_+_, _≤_};
 ghost use lib.ListN.{length};
-ghost use Rattle.words.specs.Row.{put};
+ghost use Rattle.areas.specs.Area.{put, begun};
 ghost use Rattle.grammar.specs.Bytes.{lineEnd};
-ghost use Rattle.tables.specs.Begun.{begun};
 ghost use Rattle.solving.specs.Listing.{decimal, headLine};
 
 // Puts a field, its name in front of the number, and returns the place after it.

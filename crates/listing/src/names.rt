@@ -7,7 +7,7 @@ ghost use Prim.Native.Nat.{_+_, _≤_};
 ghost use lib.ListN.{length};
 ghost use Rattle.limits.specs.Book.{names, rowWords, nameArea};
 ghost use Rattle.sets.specs.Set.{count};
-ghost use Rattle.words.specs.Row.{put};
+ghost use Rattle.areas.specs.Area.{put};
 ghost use Rattle.grammar.specs.Grammar.{joined};
 ghost use Rattle.tables.specs.Areas.{namesIn};
 ghost use Rattle.systems.specs.Rounds.{modelIn};

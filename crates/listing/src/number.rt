@@ -2,7 +2,7 @@
 ghost use mathlib.Core.Path.{_≡_};
 ghost use Prim.Native.Nat.{_+_, _≤_};
 ghost use lib.ListN.{length};
-ghost use Rattle.words.specs.Row.{put};
+ghost use Rattle.areas.specs.Area.{put};
 ghost use Rattle.solving.specs.Listing.{decimal};
 
 // Puts the figures of n, first those of n / 10, then the last, and returns the place after them.

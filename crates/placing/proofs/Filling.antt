@@ -13,7 +13,8 @@ use Rattle.limits.specs.Book.{atoms, rules, wordBits, rowWords, bodyWords}
 use Rattle.sets.specs.Set.{Set, pick, exists, count, only, union}
 use Rattle.sets.proofs.Logic.{pick-true, pick-false}
 use Rattle.sets.proofs.Counting.{count-in, count-out, count-le}
-use Rattle.words.specs.Row.{row, part, pack, put}
+use Rattle.areas.specs.Area.{part, put}
+use Rattle.words.specs.Row.{row, pack}
 use Rattle.words.proofs.Rows.{length-pack}
 use Rattle.program.specs.Program.{Program, WellFormed, size, headAt}
 use Rattle.program.specs.Standard as Standard

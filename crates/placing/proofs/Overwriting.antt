@@ -12,18 +12,17 @@ use lib.Seq.{length-take-le, take-at, drop-at}
 use Rattle.limits.specs.Book.{atoms, wordBits, rowWords, bodyWords, rowArea}
 use Rattle.sets.specs.Set.{Set, pick, exists, only, union, emptySet}
 use Rattle.sets.proofs.Logic.{either, pick-true, pick-false}
-use Rattle.words.specs.Row.{row, pack, part, put}
+use Rattle.areas.specs.Area.{part, put, begun, filled, cleared, Clear}
+use Rattle.words.specs.Row.{row, pack}
 use Rattle.words.proofs.Rows.{length-pack, pack-same, row-zero}
-use Rattle.words.proofs.Areas.{put-over}
+use Rattle.areas.proofs.Parts.{put-over}
+use Rattle.areas.proofs.Begun.{length-begun}
+use Rattle.areas.proofs.Filled.{front-cleared}
 use Rattle.program.specs.Program.{Program}
 use Rattle.program.specs.Standard.{standard}
-use Rattle.rows.specs.Clear.{cleared, Clear}
-use Rattle.tables.specs.Areas.{filled}
-use Rattle.tables.specs.Begun.{begun}
-use Rattle.tables.proofs.Encoding.{length-begun}
 use Rattle.systems.specs.Rows.{rowIn, packed}
 use Rattle.systems.proofs.Packed.{length-packed, packed-same, packed-empty, wide-pack, row-in-past, row-begun, rows-next, put-row}
-use Rattle.systems.proofs.Clearing.{tail-cleared, tail-clear, front-cleared}
+use Rattle.systems.proofs.Clearing.{tail-cleared, tail-clear}
 use Rattle.placing.specs.Partial.{withRow, withRows}
 
 -- a row of v + w words at `at`, cleared

@@ -8,11 +8,11 @@ use Prim.Native.Nat.{ℕ, _*_, _≤_}
 use lib.Dec.{eqb}
 use Rattle.limits.specs.Book.{atoms, rowWords, bodyWords}
 use Rattle.sets.specs.Set.{Set, pick, exists, count, only, image, emptySet}
-use Rattle.words.specs.Row.{pack, put}
+use Rattle.areas.specs.Area.{put, begun}
+use Rattle.words.specs.Row.{pack}
 use Rattle.program.specs.Program.{Program, size, headAt, bodyAt}
 use Rattle.program.specs.Standard.{several, helper, home, hasBody, allRow, anyRow, startSet, standard}
 use Rattle.tables.specs.Areas.{RuleTables, Counts, programIn}
-use Rattle.tables.specs.Begun.{begun}
 use Rattle.systems.specs.Rows.{RowAreas, packed}
 use Rattle.systems.specs.Rounds.{withModel}
 use Rattle.systems.specs.Standardise.{formedTables}

@@ -13,7 +13,7 @@ use Rattle.sets.specs.Set.{Set, Same, exists, within, union, emptySet, image}
 use Rattle.sets.proofs.Logic.{either, clash, not-true}
 use Rattle.sets.proofs.Tests.{exists-same}
 use Rattle.sets.proofs.Counting.{image-find}
-use Rattle.rows.specs.Clear.{cleared}
+use Rattle.areas.specs.Area.{cleared}
 use Rattle.program.specs.Program.{Program, headAt, bodyAt, consequence}
 use Rattle.program.proofs.Plain.{consequence-mono}
 use Rattle.tables.specs.Areas.{RuleTables, Counts, programIn}

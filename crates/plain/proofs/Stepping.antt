@@ -12,7 +12,8 @@ use Rattle.limits.specs.Book.{wordBits, rowWords, bodyWords}
 use Rattle.sets.specs.Set.{Set, Same, exists, within, only, union, image}
 use Rattle.sets.proofs.Tests.{within-same}
 use Rattle.sets.proofs.Counting.{image-out, image-in}
-use Rattle.words.specs.Row.{row, part, pack, put}
+use Rattle.areas.specs.Area.{part, put}
+use Rattle.words.specs.Row.{row, pack}
 use Rattle.words.proofs.Rows.{row-part}
 use Rattle.rows.proofs.Reading.{Known, in-range}
 use Rattle.tables.specs.Areas.{RuleTables}

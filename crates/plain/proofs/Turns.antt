@@ -9,9 +9,8 @@ use lib.ListN.{length, getD, replicate}
 use Rattle.limits.specs.Book.{names, rules, wordBits, rowWords}
 use Rattle.sets.specs.Set.{Set, count, same, union, emptySet}
 use Rattle.sets.proofs.Counting.{count-same, count-tail}
-use Rattle.words.specs.Row.{part, put}
-use Rattle.words.proofs.Areas.{length-part, length-put}
-use Rattle.rows.specs.Clear.{cleared}
+use Rattle.areas.specs.Area.{part, put, cleared}
+use Rattle.areas.proofs.Parts.{length-part, length-put}
 use Rattle.program.specs.Program.{Program, consequence, plainHeld, plainRounds}
 use Rattle.tables.specs.Areas.{RuleTables, Counts, programIn}
 use Rattle.systems.specs.Rows.{below}

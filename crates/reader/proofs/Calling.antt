@@ -1,7 +1,7 @@
 -- The whole call: its refusals, and what the lines and the clearing leave.
 -- Assumes nothing.
 use mathlib.Core.Path.{_≡_, refl, sym, ap, ap₂, _∙_, subst}
-use mathlib.Core.Bool.{true, false}
+use mathlib.Core.Bool.{true}
 use mathlib.Core.Logic.{_⊎_, ⊎-elim}
 use mathlib.Core.List.{List, [], _++_, map}
 use Prim.Native.Nat.{ℕ, _-_, _*_, _≤_, _<_}
@@ -17,12 +17,12 @@ use Rattle.grammar.specs.Grammar.{Clause}
 use Rattle.scan.specs.Hash.{buckets}
 use Rattle.tables.specs.Numbering.{namesOf, numbered}
 use Rattle.tables.specs.Reading.{Reading, read, refused, marked, ended, bookOf, reading}
-use Rattle.tables.specs.Areas.{Areas, Outcome, filled, nameRows, headRows, bodyRows, filledWith, tablesOf, short, refusal, outcome, readCall, namesFrom}
-use Rattle.tables.specs.Begun.{begun}
+use Rattle.tables.specs.Areas.{Areas, Outcome, nameRows, headRows, bodyRows, filledWith, tablesOf, short, refusal, outcome, readCall, namesFrom}
+use Rattle.areas.specs.Area.{begun, filled, cleared}
 use Rattle.tables.proofs.Numbering.{names-none, heads-length, bodies-length}
 use Rattle.tables.proofs.Judging.{book-lines, reading-long, reading-short}
-use Rattle.tables.proofs.Encoding.{begun-none, used, length-nameRows, not-short}
-use Rattle.rows.specs.Clear.{cleared}
+use Rattle.areas.proofs.Begun.{begun-none, used}
+use Rattle.tables.proofs.Encoding.{length-nameRows, not-short}
 use Rattle.lexicon.proofs.Entering.{indexed-none}
 use Rattle.clause.specs.Found.{lexiconOf, Named}
 use Rattle.reader.specs.declared.Answer.{Answer}

@@ -6,9 +6,8 @@ use Prim.Native.Nat.{ℕ, _+_, _-_, _≤_}
 use native.Mathlib.Omega.{arith}
 use lib.ListN.{length, take, drop, replicate, length-replicate}
 use borrow.Rule.Slice.PartMut.{midOf, putMid, post-is}
-use Rattle.words.specs.Row.{part, put}
-use Rattle.words.proofs.Areas.{part-put, put-again}
-use Rattle.rows.specs.Clear.{cleared}
+use Rattle.areas.specs.Area.{part, put, cleared}
+use Rattle.areas.proofs.Parts.{part-put, put-again}
 
 module _ (at w : ℕ) (old clear : List ℕ) (room : at + w ≤ length old) (e : clear ≡ cleared at (at + w) old) where
   size : at + w - at ≡ w

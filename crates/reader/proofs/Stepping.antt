@@ -1,6 +1,6 @@
 -- One line: its cause, and the tables with its clause.
 -- Assumes nothing.
-use mathlib.Core.Path.{_≡_, refl, sym, ap, ap₂, _∙_, subst}
+use mathlib.Core.Path.{_≡_, refl, sym, ap, _∙_, subst}
 use mathlib.Core.Bool.{Bool, true, false}
 use mathlib.Core.Logic.{inl}
 use mathlib.Core.List.{List, [], _∷_, _++_, map}
@@ -11,8 +11,10 @@ use lib.ListN.{length, take, drop, set, length-append, length-map, length-set}
 use lib.Seq.{set-split, drop-set-lt}
 use borrow.Author.Tests.{leb-true, leb-false}
 use Rattle.limits.specs.Book.{textBytes, names, rules, nameArea, bodyWords, bodyArea}
-use Rattle.words.specs.Row.{pack, part, put}
-use Rattle.words.proofs.Areas.{length-part, put-past}
+use Rattle.areas.specs.Area.{part, put, begun}
+use Rattle.words.specs.Row.{pack}
+use Rattle.areas.proofs.Parts.{length-part, put-past}
+use Rattle.areas.proofs.Begun.{begun-more}
 use Rattle.program.specs.Program.{Rule}
 use Rattle.grammar.specs.Bytes.{Bytes, Folding, Among, notEnd, hash, lineEnd}
 use Rattle.grammar.specs.Grammar.{Clause, Form, silent, rule, fault}
@@ -21,16 +23,13 @@ use Rattle.scan.specs.Places.{pastAt}
 use Rattle.tables.specs.Numbering.{place, places, namesOf, numbered}
 use Rattle.tables.specs.Reading.{lineCause, taken}
 use Rattle.tables.specs.Areas.{headRows, bodyRows}
-use Rattle.tables.specs.Begun.{begun}
 use Rattle.tables.proofs.Numbering.{meets-met, names-more, numbered-more, heads-append, bodies-append, heads-length, bodies-length}
 use Rattle.tables.proofs.Loop.{cause-rules, cause-names, cause-none}
-use Rattle.tables.proofs.Encoding.{put-begun}
 use Rattle.clause.specs.Line.{LineEnds, formFrom, unblank, faultOf}
 use Rattle.clause.proofs.Forms.{closed-unblank, end-unblank}
 use Rattle.clause.proofs.Places.{end-here, in-text}
 use Rattle.clause.specs.Found.{Kept, Lexicon, namesAt, Named, InOrder, Ruled, Said, namesWith}
 use Rattle.clause.proofs.Rows.{kept-same}
-use Rattle.clause.proofs.Meeting.{begun-again}
 use Rattle.reader.specs.declared.Step.{Step}
 use Rattle.reader.specs.State.{Tables, tablesAt, Booked, Stayed, Stepped, formAt}
 use Rattle.reader.proofs.Silent.{Loud, headed, headed-end, head-loud}
@@ -79,12 +78,6 @@ stepped-refused : (cs : List Clause) (form : Form) (end line cause at next : ℕ
     → (cause ≡ 0 → ⊥) → Stepped cs form end line cause at next y
 stepped-refused cs form end line cause at next y e l =
     record { judged = e; ends = λ z. absurd (l z); counts = λ z. absurd (l z); books = λ z. absurd (l z) }
-
--- more rows after those begun
-begun-more : (xs ys old new : List ℕ) (at : ℕ) → at ≡ length xs → old ≡ begun xs old → new ≡ put at ys old → new ≡ begun (xs ++ ys) new
-begun-more xs ys old new at p e q =
-    let b : new ≡ begun (xs ++ ys) old = q ∙ ap₂ (λ (i : ℕ) (zs : List ℕ). put i ys zs) p e ∙ put-begun xs ys old in
-    b ∙ sym (begun-again (xs ++ ys) old) ∙ ap (begun (xs ++ ys)) (sym b)
 
 -- an element set is put
 set-put : (xs : List ℕ) (i x : ℕ) → i < length xs → set xs i x ≡ put i (x ∷ []) xs

@@ -11,7 +11,7 @@ use Rattle.grammar.specs.Lines.{lines, formOf}
 use Rattle.tables.specs.Numbering.{namesOf, numbered}
 use Rattle.tables.specs.Reading.{Reading, read, refused, lineCause, taken, readLines}
 use Rattle.tables.specs.Areas.{headRows, bodyRows}
-use Rattle.tables.specs.Begun.{begun}
+use Rattle.areas.specs.Area.{begun}
 use Rattle.clause.specs.Line.{lineAt}
 use Rattle.clause.specs.Found.{Kept, Lexicon, lexiconOf, Named}
 

@@ -11,8 +11,8 @@ use borrow.Author.Tests.{not-false, lt-ltb, le-ltb, ltb-true, ltb-false, eqb-tru
 use Rattle.limits.specs.Book.{atoms, wordBits, rowWords}
 use Rattle.sets.specs.Set.{Set, exists, within, meets, only, union, emptySet}
 use Rattle.sets.proofs.Logic.{either, of-not, pick-true, pick-false}
-use Rattle.words.specs.Row.{row, part, pack, put}
-use Rattle.rows.specs.Clear.{cleared}
+use Rattle.areas.specs.Area.{part, put, cleared}
+use Rattle.words.specs.Row.{row, pack}
 use Rattle.program.specs.System.{anyHead, allStep, round}
 use Rattle.systems.specs.Rows.{below}
 use Rattle.systems.specs.Rounds.{modelIn, withModel}

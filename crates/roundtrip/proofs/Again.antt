@@ -13,13 +13,13 @@ use Rattle.limits.specs.Book.{names, nameBytes, rules, bodyWords, nameArea, bod
 use Rattle.sets.specs.Set.{every}
 use Rattle.sets.proofs.Logic.{and-make, not-true, not-of-false}
 use Rattle.sets.proofs.Tests.{every-make}
-use Rattle.words.specs.Row.{part}
+use Rattle.areas.specs.Area.{part, filled}
 use Rattle.program.specs.Program.{Rule}
 use Rattle.grammar.specs.Bytes.{Bytes, Folding, allOf, Among}
 use Rattle.grammar.specs.Grammar.{Clause}
 use Rattle.tables.specs.Numbering.{sameBytes, place, standing, namesOf, numbered}
 use Rattle.tables.specs.Reading.{Fits, Book, bookOf, read}
-use Rattle.tables.specs.Areas.{Areas, rulesOf, filled, filledWith, padded, nameRows, headRows, bodyRows, tablesOf, nameAt, namesIn, rulesIn}
+use Rattle.tables.specs.Areas.{Areas, rulesOf, filledWith, padded, nameRows, headRows, bodyRows, tablesOf, nameAt, namesIn, rulesIn}
 use Rattle.tables.specs.Writing.{own, zeroFrom, goodName, different, numbersIn, orderly, metIn, wellFormed, written, Readable}
 use Rattle.tables.specs.Claims.{Judged}
 use Rattle.tables.proofs.Numbering.{Distinct, same-bytes-eq, names-distinct, names-from, heads-length, bodies-length, book-low}

@@ -13,13 +13,13 @@ use Rattle.limits.specs.Book.{names, nameBytes, rules, bodyWords, nameArea, bod
 use Rattle.sets.specs.Set.{every}
 use Rattle.sets.proofs.Logic.{clash, not-true, and-left, and-right, of-not}
 use Rattle.sets.proofs.Tests.{every-at}
-use Rattle.words.specs.Row.{part}
+use Rattle.areas.specs.Area.{part, filled}
 use Rattle.program.specs.Program.{Rule}
 use Rattle.grammar.specs.Bytes.{Bytes, Folding, allOf}
 use Rattle.grammar.specs.Grammar.{Clause}
 use Rattle.tables.specs.Numbering.{sameBytes, place, namesOf, numbered}
 use Rattle.tables.specs.Reading.{Book}
-use Rattle.tables.specs.Areas.{Areas, rulesOf, filled, nameRows, headRows, bodyRows, filledWith, tablesOf, nameAt, namesIn, rulesIn}
+use Rattle.tables.specs.Areas.{Areas, rulesOf, nameRows, headRows, bodyRows, filledWith, tablesOf, nameAt, namesIn, rulesIn}
 use Rattle.tables.specs.Writing.{own, zeroFrom, goodName, different, numbersIn, orderly, metIn, wellFormed}
 use Rattle.tables.proofs.Numbering.{Distinct, same-bytes-eq, same-bytes-refl, place-here, place-on}
 use Rattle.tables.proofs.Good.{Good}

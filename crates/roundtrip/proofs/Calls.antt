@@ -2,12 +2,11 @@
 -- Assumes nothing.
 use mathlib.Core.Path.{_≡_, sym, ap, ap₂, subst, _∙_}
 use mathlib.Core.Bool.{true, false}
-use mathlib.Core.List.{List, [], _∷_, _++_, append-assoc, map}
+use mathlib.Core.List.{List, [], _∷_, _++_, map}
 use Prim.Native.Nat.{ℕ, zero, suc, _-_, _*_, _≤_}
 use native.Mathlib.Omega.{arith}
 use lib.Dec.{ltb, lit<}
-use lib.ListN.{length, take, drop, replicate, length-append, length-replicate, length-map}
-use lib.Seq.{take-at, take-append-seam}
+use lib.ListN.{length, take, drop, replicate, length-map}
 use borrow.Author.Tests.{ltb-false, le-ltb}
 use Rattle.limits.specs.Book.{textBytes, nameBytes, rules, bodyWords, nameArea, bodyArea}
 use Rattle.sets.proofs.Logic.{either, not-true}
@@ -20,30 +19,17 @@ use Rattle.grammar.specs.Grammar.{Clause}
 use Rattle.program.specs.Program.{Rule}
 use Rattle.tables.specs.Numbering.{namesOf, numbered}
 use Rattle.tables.specs.Reading.{bookOf, read}
-use Rattle.tables.specs.Areas.{Areas, short, filled, filledWith, nameRows, headRows, bodyRows, tablesOf, readCall}
+use Rattle.areas.specs.Area.{filled}
+use Rattle.tables.specs.Areas.{Areas, short, filledWith, nameRows, headRows, bodyRows, tablesOf, readCall}
 use Rattle.tables.specs.Writing.{Written, wellFormed, writeCall}
 use Rattle.tables.specs.Claims.{accepted}
 use Rattle.tables.proofs.Numbering.{heads-length, bodies-length}
-use Rattle.tables.proofs.Encoding.{length-nameRows, length-filled, long-enough, not-short}
+use Rattle.areas.proofs.Filled.{length-filled, take-filled, over-filled}
+use Rattle.tables.proofs.Encoding.{length-nameRows, long-enough, not-short}
 use Rattle.tables.proofs.Theorems.{judged, read-calls, read-fits, read-good-at}
 use Rattle.roundtrip.specs.Claims.{writtenText, ReadsTo, over, wrote, WriteCalls}
 use Rattle.roundtrip.proofs.Theorems.{round-trip}
 use Rattle.roundtrip.proofs.Judging.{cramped, roomy, roomy-long, refused-one, refused-ten, in-place, placed-long, placed-fits, write-judges}
-
--- the text that was placed
-take-filled : (size : ℕ) (w area : List ℕ) → take (length w) (filled size w area) ≡ w
-unfolding filled
-take-filled size w area = take-append-seam w (replicate (size - length w) 0 ++ drop size area)
-
--- an area filled with xs: over the stated size what another one filled with xs has
-over-filled : (size : ℕ) (xs mine old : List ℕ) → length xs ≤ size → mine ≡ filled size xs mine → take size mine ++ drop size old ≡ filled size xs old
-unfolding filled
-over-filled size xs mine old h e =
-    let zs : List ℕ = replicate (size - length xs) 0 in
-    let l : length (xs ++ zs) ≡ size = simp (length-append, length-replicate) (omega arith) in
-    ap (λ (s : List ℕ). s ++ drop size old)
-    (ap (take size) (e ∙ sym (append-assoc xs zs (drop size mine))) ∙ take-at (xs ++ zs) (drop size mine) size l)
-    ∙ append-assoc xs zs (drop size old)
 
 -- areas keep their lengths when filled
 still-long : (ns : List Bytes) (rs : List (Rule ℕ)) (old : Areas) → length (nameRows ns) ≤ nameArea → length (headRows rs) ≤ rules

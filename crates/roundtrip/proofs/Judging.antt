@@ -14,7 +14,8 @@ use Rattle.limits.proofs.Causes.{without, other, one-found}
 use Rattle.sets.proofs.Logic.{either, clash, not-true, or-left, or-none, holds, fails, pick-true, pick-false}
 use Rattle.words.specs.Row.{Words}
 use Rattle.grammar.specs.Bytes.{Bytes, Folding}
-use Rattle.tables.specs.Areas.{Areas, short, filled}
+use Rattle.areas.specs.Area.{filled}
+use Rattle.tables.specs.Areas.{Areas, short}
 use Rattle.tables.specs.Writing.{Readable, Written, wellFormed, placed, writeCall}
 use Rattle.tables.proofs.Encoding.{long-enough, not-short}
 use Rattle.roundtrip.specs.Claims.{writtenText, wrote, unwritten, WriteLong, WriteJudges}

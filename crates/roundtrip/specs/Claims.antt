@@ -13,7 +13,8 @@ use Rattle.grammar.specs.Bytes.{Bytes}
 use Rattle.grammar.specs.Grammar.{Clause}
 use Rattle.tables.specs.Numbering.{namesOf}
 use Rattle.tables.specs.Reading.{bookOf, read}
-use Rattle.tables.specs.Areas.{Areas, rulesOf, short, filled, tablesOf, namesIn, rulesIn, readCall}
+use Rattle.areas.specs.Area.{filled}
+use Rattle.tables.specs.Areas.{Areas, rulesOf, short, tablesOf, namesIn, rulesIn, readCall}
 use Rattle.tables.specs.Writing.{Readable, wellFormed, written, Written, writeCall}
 use Rattle.tables.specs.Claims.{accepted}
 

@@ -16,7 +16,8 @@ use Rattle.sets.proofs.Tests.{every-same, exists-same, not-exists, within-make}
 use Rattle.sets.proofs.Every.{every-on, every-off}
 use Rattle.sets.proofs.Ranges.{every-add, exists-add}
 use Rattle.sets.proofs.Walk.{none-between, next-within}
-use Rattle.words.specs.Row.{bit, row, part}
+use Rattle.areas.specs.Area.{part}
+use Rattle.words.specs.Row.{bit, row}
 use Rattle.words.proofs.Rows.{row-part}
 use Rattle.systems.specs.Rows.{rowIn, formedRows}
 use Rattle.systems.specs.Fold.{formedAll}

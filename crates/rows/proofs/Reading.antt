@@ -18,7 +18,8 @@ use mir.Val.{Fits}
 use borrow.Author.Tests.{eq-eqb, ne-eqb}
 use Rattle.limits.specs.Book.{wordBits}
 use Rattle.sets.specs.Set.{Set, within, meets, same, exists, count}
-use Rattle.words.specs.Row.{bit, row, part, Words}
+use Rattle.areas.specs.Area.{part}
+use Rattle.words.specs.Row.{bit, row, Words}
 use Rattle.words.proofs.Rows.{row-part, withinWord, meetsWord, existsWord, within-more, meets-more, same-more, exists-more, count-more}
 use Rattle.words.proofs.Areas.{words-part}
 

@@ -14,7 +14,8 @@ use mir.Val.{Fits}
 use borrow.Author.Tests.{ltb-true, ltb-false}
 use Rattle.limits.specs.Book.{wordBits}
 use Rattle.sets.specs.Set.{Set, next}
-use Rattle.words.specs.Row.{bit, row, part}
+use Rattle.areas.specs.Area.{part}
+use Rattle.words.specs.Row.{bit, row}
 use Rattle.sets.proofs.Logic.{either, clash}
 use Rattle.sets.proofs.Walk.{Following, next-spec, next-unique}
 use Rattle.words.proofs.Bits.{bit-zero, bit-shr, bit-high, trailing-next, trailing-lt}

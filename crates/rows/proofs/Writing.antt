@@ -16,11 +16,13 @@ use borrow.Author.Tests.{eqb-true, eqb-false, eq-eqb, ne-eqb}
 use borrow.Rule.Slice.PartMut.{set-mid-at}
 use Rattle.limits.specs.Book.{wordBits}
 use Rattle.sets.specs.Set.{Set, Same, only, union}
-use Rattle.words.specs.Row.{bit, row, part, put, pack, binary, Words}
+use Rattle.areas.specs.Area.{part, put}
+use Rattle.words.specs.Row.{bit, row, pack, binary, Words}
 use Rattle.sets.proofs.Logic.{either}
 use Rattle.words.proofs.Bits.{bit-or, bit-power, bit-binary, bits-equal, binary-lt}
 use Rattle.words.proofs.Rows.{row-word, length-pack, pack-row, pack-same}
-use Rattle.words.proofs.Areas.{length-part, words-part}
+use Rattle.areas.proofs.Parts.{length-part}
+use Rattle.words.proofs.Areas.{words-part}
 use Rattle.rows.proofs.Reading.{word-of, Known, in-range}
 
 -- a word with the bits of f

@@ -8,7 +8,8 @@ ghost use Prim.Native.Nat.{_+_, _*_, _^_, _<_, _≤_};
 ghost use lib.ListN.{length};
 ghost use Rattle.limits.specs.Book.{wordBits};
 ghost use Rattle.sets.specs.Set as Set;
-ghost use Rattle.words.specs.Row.{row, part};
+ghost use Rattle.areas.specs.Area.{part};
+ghost use Rattle.words.specs.Row.{row};
 
 // Whether atom a is in the row.
 pub fn member(area: &[u64], at: usize, width: usize, a: usize) -> bool

@@ -5,7 +5,8 @@ ghost use Prim.Native.Nat.{_+_, _*_, _-_, _^_, _<_, _≤_};
 ghost use lib.ListN.{length};
 ghost use Rattle.limits.specs.Book.{wordBits};
 ghost use Rattle.sets.specs.Set as Set;
-ghost use Rattle.words.specs.Row.{row, part};
+ghost use Rattle.areas.specs.Area.{part};
+ghost use Rattle.words.specs.Row.{row};
 
 // The first atom of the row at or past a, else the row's end.
 pub fn next(area: &[u64], at: usize, width: usize, a: usize) -> usize

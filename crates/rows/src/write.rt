@@ -5,7 +5,8 @@ ghost use Prim.Native.Nat.{_+_, _*_, _<_, _≤_};
 ghost use lib.ListN.{length};
 ghost use Rattle.limits.specs.Book.{wordBits};
 ghost use Rattle.sets.specs.Set.{only, union};
-ghost use Rattle.words.specs.Row.{row, part, pack, put};
+ghost use Rattle.areas.specs.Area.{part, put};
+ghost use Rattle.words.specs.Row.{row, pack};
 
 // Atom a joins the row.
 pub fn insert(area: &mut [u64], at: usize, width: usize, a: usize)

@@ -1,7 +1,7 @@
 -- The outcomes of the call: laws over what each step answers and leaves.
 -- Assumes nothing.
 use mathlib.Core.Path.{_≡_, refl, sym, ap, ap₂, _∙_, subst}
-use mathlib.Core.Bool.{Bool, true, false}
+use mathlib.Core.Bool.{Bool, false}
 use mathlib.Core.List.{List}
 use Prim.Native.Nat.{ℕ, suc, _+_, _*_, _≤_, _<_}
 use native.Mathlib.Omega.{arith}
@@ -22,11 +22,13 @@ use Rattle.grammar.specs.Grammar.{Clause}
 use Rattle.grammar.proofs.Folding.{folding}
 use Rattle.tables.specs.Numbering.{namesOf, programOf}
 use Rattle.tables.specs.Reading.{Reading, read, refused, Fits, bookOf}
-use Rattle.tables.specs.Areas.{Areas, RuleTables, Counts, Outcome, countsOf, rulesOf, short, filled, nameRows, filledWith, tablesOf}
+use Rattle.areas.specs.Area.{filled}
+use Rattle.tables.specs.Areas.{Areas, RuleTables, Counts, Outcome, countsOf, rulesOf, short, nameRows, filledWith, tablesOf}
 use Rattle.tables.specs.Areas.{refusal, outcome, namesIn, programIn}
 use Rattle.tables.proofs.Numbering.{numbers}
 use Rattle.tables.proofs.Calls.{refusal-some}
-use Rattle.tables.proofs.Encoding.{length-nameRows, length-filled, names-filled}
+use Rattle.areas.proofs.Filled.{length-filled}
+use Rattle.tables.proofs.Encoding.{length-nameRows, names-filled}
 use Rattle.tables.proofs.Theorems.{judged, read-fits, read-fine}
 use Rattle.systems.specs.Rows.{below}
 use Rattle.systems.specs.Rounds.{modelIn, withModel}

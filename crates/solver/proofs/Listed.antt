@@ -11,7 +11,7 @@ use Rattle.sets.specs.Set.{Set, Same, pick, members}
 use Rattle.sets.proofs.Counting.{count-same}
 use Rattle.grammar.specs.Bytes.{Bytes}
 use Rattle.grammar.specs.Grammar.{joined}
-use Rattle.tables.specs.Areas.{filled}
+use Rattle.areas.specs.Area.{filled}
 use Rattle.solving.specs.Listing.{headLine, heldNames, listingLines, listed}
 use Rattle.listing.specs.Write.{listingOf}
 

@@ -4,7 +4,6 @@ use mathlib.Core.Path.{_≡_, refl, sym, ap, ap₂, _∙_}
 use mathlib.Core.Bool.{true}
 use mathlib.Core.List.{List, []}
 use Prim.Native.Nat.{ℕ, _≤_}
-use native.Mathlib.Omega.{arith}
 use lib.Dec.{ltb}
 use lib.ListN.{length}
 use borrow.Author.Tests.{lt-ltb, le-ltb}
@@ -15,7 +14,8 @@ use Rattle.program.specs.Program.{Program, WellFormed}
 use Rattle.program.specs.System.{System, folded, roundsOf, heldBy}
 use Rattle.program.specs.System as System
 use Rattle.program.specs.Standard.{standard}
-use Rattle.tables.specs.Areas.{RuleTables, Counts, filled, programIn}
+use Rattle.areas.specs.Area.{filled}
+use Rattle.tables.specs.Areas.{RuleTables, Counts, programIn}
 use Rattle.systems.specs.Rows.{RowAreas, packed, below, formedRows}
 use Rattle.systems.specs.Fold.{FoldOutcome, shortRows, foldedArea, foldCall}
 use Rattle.systems.specs.Rounds.{RoundsOutcome, withModel, formedSystem, roundsCall}

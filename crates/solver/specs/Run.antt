@@ -13,7 +13,8 @@ use Rattle.program.specs.Program.{Program}
 use Rattle.program.specs.System.{System, folded, roundsOf, heldBy}
 use Rattle.program.specs.System as System
 use Rattle.program.specs.Standard.{standard}
-use Rattle.tables.specs.Areas.{RuleTables, Counts, filled}
+use Rattle.areas.specs.Area.{filled}
+use Rattle.tables.specs.Areas.{RuleTables, Counts}
 use Rattle.systems.specs.Rows.{RowAreas, packed, below}
 use Rattle.systems.specs.Rounds.{withModel}
 use Rattle.systems.specs.Standardise.{formedTables}

@@ -7,7 +7,7 @@ ghost use mathlib.Core.Bool.{true};
 ghost use Prim.Native.Nat.{_≤_};
 ghost use lib.ListN.{length};
 ghost use Rattle.limits.specs.Book.{textBytes, rules, nameArea, bodyArea, rowArea};
-ghost use Rattle.rows.specs.Clear.{Clear};
+ghost use Rattle.areas.specs.Area.{Clear};
 ghost use Rattle.grammar.specs.Bytes.{ourLetters};
 ghost use Rattle.tables.specs.Reading.{bookOf};
 ghost use Rattle.tables.specs.Areas.{outcome};

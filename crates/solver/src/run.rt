@@ -2,7 +2,7 @@
 ghost use mathlib.Core.Path.{_≡_};
 ghost use mathlib.Core.Bool.{true};
 ghost use Rattle.limits.specs.Book.{rowArea};
-ghost use Rattle.rows.specs.Clear.{Clear};
+ghost use Rattle.areas.specs.Area.{Clear};
 ghost use Rattle.tables.specs.Areas.{programIn};
 ghost use Rattle.solver.specs.Run.{RunReady, runTables};
 

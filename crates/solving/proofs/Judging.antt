@@ -24,7 +24,8 @@ use Rattle.tables.specs.Claims.{zeroed}
 use Rattle.tables.proofs.Calls.{refusal-cause, Placed, refusal-placed, leaves-refusal}
 use Rattle.tables.proofs.Judging.{reading-short}
 use Rattle.tables.proofs.Loop.{read-refused, refused-number, refused-line}
-use Rattle.tables.proofs.Encoding.{AllFine, length-nameRows, length-filled, filled-is, name-at, long-enough, not-short}
+use Rattle.areas.proofs.Filled.{length-filled, filled-is}
+use Rattle.tables.proofs.Encoding.{AllFine, length-nameRows, name-at, long-enough, not-short}
 use Rattle.tables.proofs.Theorems.{judged, read-fits, read-fine}
 use Rattle.solving.specs.Solve.{SolveAreas, SolveOutcome, shortAreas, solveRefusal, answerOf, solvedAreas, solveRead, solveCall}
 use Rattle.solving.specs.SolveClaims.{SolveLong, InRange, SolveJudges}

@@ -21,7 +21,8 @@ use Rattle.tables.specs.Reading.{Fits, Book}
 use Rattle.tables.specs.Areas.{Areas, nameRows, headRows, bodyRows, filledWith, tablesOf}
 use Rattle.tables.specs.Claims.{zeroed}
 use Rattle.tables.proofs.Calls.{cleared-zero}
-use Rattle.tables.proofs.Encoding.{AllFit, length-nameRows, drop-filled}
+use Rattle.areas.proofs.Filled.{drop-filled}
+use Rattle.tables.proofs.Encoding.{AllFit, length-nameRows}
 use Rattle.tables.proofs.Numbering.{numbers, heads-length, bodies-length}
 use Rattle.tables.proofs.Theorems.{judged, read-fine}
 use Rattle.systems.specs.Rows.{packed, below}

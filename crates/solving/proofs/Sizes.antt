@@ -1,33 +1,30 @@
 -- What lies past the stated sizes of the solver's areas is neither judged nor touched.
 -- Assumes nothing.
-use mathlib.Core.Path.{_≡_, refl, ap, ap₂}
+use mathlib.Core.Path.{_≡_, refl, ap, ap₂, _∙_}
 use mathlib.Core.Bool.{_||_}
 use mathlib.Core.List.{List, [], _++_, map}
 use Prim.Native.Nat.{ℕ}
-use native.Mathlib.Omega.{arith}
 use lib.ListN.{take, drop}
-use Rattle.limits.specs.Book.{rowWords, rowArea, listingBytes}
-use Rattle.sets.specs.Set.{Set}
-use Rattle.words.specs.Row.{pack}
-use Rattle.words.proofs.Rows.{length-pack}
+use Rattle.limits.specs.Book.{rules, bodyArea, rowWords, rowArea, listingBytes}
+use Rattle.sets.specs.Set.{count}
+use Rattle.program.specs.Program.{Program, plainHeld, plainRounds}
 use Rattle.program.specs.System.{System, folded, roundsOf, heldBy}
 use Rattle.program.specs.Standard.{standard}
 use Rattle.grammar.specs.Grammar.{Clause, joined}
 use Rattle.tables.specs.Numbering.{namesOf, numbered, programOf}
 use Rattle.tables.specs.Reading.{Reading, read, refused, bookOf}
-use Rattle.tables.specs.Areas.{Areas, Outcome, tablesOf, refusal}
+use Rattle.tables.specs.Areas.{Areas, Outcome, tablesOf, refusal, programIn}
 use Rattle.tables.specs.Sizes.{statedTables, tablesWithRest}
-use Rattle.tables.proofs.Sizes.{both-parts, short-first, begun-first, filled-first, pick-first, tables-short, tables-both, tables-filled, refusal-first}
+use Rattle.areas.proofs.First.{both-parts, filled-first}
+use Rattle.tables.proofs.Sizes.{short-first, pick-first, tables-short, tables-both, tables-filled, refusal-first}
 use Rattle.systems.specs.Rows.{packed, below}
-use Rattle.systems.specs.Rounds.{withModel}
+use Rattle.systems.specs.Standardise.{shortRules}
+use Rattle.systems.proofs.Bridge.{formed-limits}
+use Rattle.systems.proofs.Sizes.{with-model-first, formed-tables-first, program-first}
+use Rattle.solving.specs.Plain.{PlainOutcome, shortPlain, plainRefusal, plainOf, plainCall}
 use Rattle.solving.specs.Listing.{listingLines, listed}
 use Rattle.solving.specs.Solve.{SolveAreas, SolveOutcome, shortAreas, refusalAnswer, solveRefusal, answerOf, solvedAreas, solveRead, solveCall}
-use Rattle.solving.specs.Sizes.{cutAreas, areasWithRest, solveWithRest, SolveSizes}
-
--- a set put into the model area
-model-first : (f : Set) (model : List ℕ) → withModel f model ≡ withModel f (take rowWords model) ++ drop rowWords model
-unfolding withModel
-model-first f model = begun-first rowWords (pack rowWords f) model (omega (arith, length-pack rowWords f))
+use Rattle.solving.specs.Sizes.{cutAreas, areasWithRest, solveWithRest, SolveSizes, plainWithRest, PlainSizes}
 
 module _ (old : SolveAreas) where
   -- the tests of the lengths
@@ -70,7 +67,7 @@ module _ (old : SolveAreas) where
         all = filled-first rowArea (packed rowWords (s .atoms) (s .all)) (old .all) i;
         any = filled-first rowArea (packed rowWords (s .atoms) (s .any)) (old .any) i;
         spare = filled-first rowArea [] (old .spare) i;
-        model = model-first (below (s .atoms) (heldBy s)) (old .model) i;
+        model = with-model-first (below (s .atoms) (heldBy s)) (old .model) i;
         listing = filled-first listingBytes (joined (listingLines (namesOf cs) (heldBy s) k (roundsOf s))) (old .listing) i;
       }
 
@@ -95,3 +92,33 @@ solve-sizes fold t k old =
     in
     pick-first rest (areas-short old) (λ s. refused 1)
     (pick-first rest refl (λ s. refused 2) (pick-first rest refl (λ s. refused 9) (read-first old (bookOf fold t) k)))
+
+-- the plain route
+module _ (model : List ℕ) where
+  abbrev cut : List ℕ
+  cut = take rowWords model
+
+  plain-refused : (k : ℕ) → plainRefusal k model ≡ plainWithRest model (plainRefusal k cut)
+  plain-refused k i = plainRefusal k (both-parts rowWords model i)
+
+  plain-of : (p : Program) → plainOf p model ≡ plainWithRest model (plainOf p cut)
+  unfolding plainOf
+  plain-of p i =
+      record {
+        number = 0;
+        held = count (p .names) (plainHeld p);
+        rounds = plainRounds p;
+        model = with-model-first (below (p .names) (plainHeld p)) model i;
+      }
+
+pub plain-sizes : PlainSizes
+unfolding plainCall shortPlain shortRules
+plain-sizes tables counts model =
+    let rest : PlainOutcome → PlainOutcome = plainWithRest model in
+    pick-first rest
+    (ap₂ _||_ (ap₂ _||_ (short-first rules (tables .heads)) (short-first bodyArea (tables .bodies))) (short-first rowWords model))
+    (λ t. plain-refused model 1)
+    (pick-first rest (formed-tables-first tables counts)
+    (λ t. plain-of model (programIn tables counts)
+    ∙ ap (λ (p : Program). rest (plainOf p (take rowWords model))) (program-first tables counts (formed-limits tables counts t .1)))
+    (plain-refused model 10))

@@ -2,14 +2,13 @@
 -- Assumes nothing.
 use mathlib.Core.Path.{_≡_, refl, sym, ap, ap₂, _∙_, subst}
 use mathlib.Core.Bool.{true, false}
-use mathlib.Core.List.{List, [], _++_, map}
+use mathlib.Core.List.{List, [], map}
 use Prim.Native.Nat.{ℕ, _-_, _*_, _≤_, _<_}
 use native.Mathlib.Nat.{le-refl}
 use native.Mathlib.Omega.{arith}
 use lib.Dec.{ltb}
 use borrow.Author.Tests.{ltb-true, ltb-false}
-use lib.ListN.{length, getD, drop, replicate, length-map}
-use lib.Seq.{drop-at}
+use lib.ListN.{length, getD, length-map}
 use Rattle.limits.specs.Book.{rules, atoms, folds, wordBits, rowWords, bodyWords, bodyArea, rowArea}
 use Rattle.sets.specs.Set.{Set, Same}
 use Rattle.sets.proofs.Logic.{either, clash, not-true}
@@ -23,9 +22,10 @@ use Rattle.grammar.specs.Grammar.{Clause}
 use Rattle.tables.specs.Numbering.{namesOf, numbered, programOf}
 use Rattle.tables.specs.Reading.{Fits}
 use Rattle.tables.specs.Areas.{Areas, RuleTables, Counts, countsOf, rulesOf, short, rulesIn, programIn}
-use Rattle.tables.specs.Areas.{filled, headRows, bodyRows, filledWith, tablesOf}
-use Rattle.tables.specs.Begun.{begun}
-use Rattle.tables.proofs.Encoding.{rules-filled, length-filled, filled-is, long-enough}
+use Rattle.tables.specs.Areas.{headRows, bodyRows, filledWith, tablesOf}
+use Rattle.areas.specs.Area.{begun, filled}
+use Rattle.areas.proofs.Filled.{length-filled, begun-over}
+use Rattle.tables.proofs.Encoding.{rules-filled, long-enough}
 use Rattle.tables.proofs.Numbering.{numbers, heads-length, bodies-length, book-low}
 use Rattle.systems.specs.Rows.{RowAreas, rowIn, packed, below}
 use Rattle.systems.specs.Fold.{shortRows, foldedArea, foldCall}
@@ -33,7 +33,7 @@ use Rattle.systems.specs.Rounds.{modelIn, withModel, systemIn, startKept, round
 use Rattle.systems.specs.Standardise.{standardCall, standardOf, standardRows}
 use Rattle.systems.specs.Claims.{InCount, TablesLong, StandardLong, StandardFormed}
 use Rattle.systems.proofs.Packed.{length-packed, packed-same, zero-word, row-unused, row-filled-past}
-use Rattle.systems.proofs.Formed.{unfolded-in, unfolded-same, round-same}
+use Rattle.systems.proofs.Formed.{after-in, after-same, round-same}
 use Rattle.systems.proofs.Folds.{rows-short, formed-all, fold-good}
 use Rattle.systems.proofs.Bridge.{size-in, head-in, body-in, tables-formed}
 use Rattle.systems.proofs.Standard.{all-within, any-within, start-within, row-whole, all-rows, any-rows, start-row, long-tables, standard-formed}
@@ -117,15 +117,6 @@ read-standard cs old rows fits e all any model =
 
 -- Standardising, then folding, then the rounds.
 
--- a filled area with as many other words in front
-begun-over : (size : ℕ) (xs ys old : List ℕ) → length xs ≡ length ys → begun xs (filled size ys old) ≡ filled size xs old
-unfolding begun
-begun-over size xs ys old e =
-    ap (λ (t : List ℕ). xs ++ drop (length xs) t) (filled-is size ys old)
-    ∙ ap (λ (t : List ℕ). xs ++ t) (drop-at ys (replicate (size - length ys) 0 ++ drop size old) (length xs) (sym e))
-    ∙ ap (λ (j : ℕ). xs ++ (replicate (size - j) 0 ++ drop size old)) (sym e)
-    ∙ sym (filled-is size xs old)
-
 -- the areas of rows of a program after k folds
 abbrev pub foldedRows : Program → RowAreas → ℕ → RowAreas
 foldedRows p o k =
@@ -145,7 +136,7 @@ module _ (p : Program) (well : WellFormed p) (few : standard p .atoms ≤ atoms)
 
   -- these lie within the atoms
   pub folded-within : (k i a : ℕ) → i < m → rows k i a ≡ true → a < m
-  folded-within k i a l e = unfolded-in k m m (allRow p) (le-refl m) (λ i a l e. (l, all-within p well i a l e)) i a l e .1
+  folded-within k i a l e = after-in k m m (allRow p) (le-refl m) (λ i a l e. (l, all-within p well i a l e)) i a l e .1
 
   -- an area filled with rows that lie so has neither a bit nor a row at or past the count
   area-in : (f : ℕ → Set) (old : List ℕ) → ((i a : ℕ) → i < m → f i a ≡ true → a < m) → InCount m (filled rowArea (packed rowWords m f) old)
@@ -176,9 +167,9 @@ module _ (p : Program) (well : WellFormed p) (few : standard p .atoms ≤ atoms)
     same-rows : (i : ℕ) → i < m → Same (rowWords * wordBits) (rowsAfter k m (rowIn rowWords all) i) (rows k i)
     same-rows i l a b =
         let inside : rowsAfter k m (rowIn rowWords all) i a ≡ true → a < m =
-        λ e. unfolded-in k atoms m (rowIn rowWords all) few all-in i a (omega arith) e .1 in
+        λ e. after-in k atoms m (rowIn rowWords all) few all-in i a (omega arith) e .1 in
         either (ltb a m)
-        (λ t. unfolded-same k m (rowIn rowWords all) (allRow p) (λ i l a b. all-rows p well few o i l a) i l a (ltb-true a m t))
+        (λ t. after-same k m (rowIn rowWords all) (allRow p) (λ i l a b. all-rows p well few o i l a) i l a (ltb-true a m t))
         (λ t.
         let past : m ≤ a = ltb-false a m t in
         not-true (rowsAfter k m (rowIn rowWords all) i a) (λ e. let c : a < m = inside e in omega arith)

@@ -23,6 +23,7 @@ demands fold folding = record {
   lists = Lists.solve-lists fold folding;
   rounds = Rounds.solve-rounds fold folding;
   plain-calls = Plain.plain-calls;
+  plain-sizes = Sizes.plain-sizes;
   plain-holds = Holds.plain-holds fold folding;
   alike = Holds.alike fold folding;
   alike-plain = Holds.alike-plain fold folding;

@@ -18,7 +18,7 @@ use Rattle.solving.specs.Solve.{SolveAreas, solveCall}
 use Rattle.solving.specs.Held.{HeldIn, Held}
 use Rattle.solving.specs.PlainClaims.{PlainCalls, PlainHolds}
 use Rattle.solving.specs.SolveClaims.{SolveJudges, SolvePast, SolveHolds, SolveRounds}
-use Rattle.solving.specs.Sizes.{SolveSizes}
+use Rattle.solving.specs.Sizes.{SolveSizes, PlainSizes}
 use Rattle.solving.specs.ListingClaims.{Decimal, Lists}
 
 -- All of demands 1 and 3, for every text, fold number and old contents of the areas.
@@ -35,6 +35,7 @@ pub record Demands (fold : ℕ → ℕ) : Type 0 where
       → solveCall fold t k old .answer .number ≡ 0 → SolveRounds cs k (solveCall fold t k old)
   pub plain-calls : (tables : RuleTables) (counts : Counts) (model : List ℕ)
       → PlainCalls tables counts model (programIn tables counts) (plainCall tables counts model)
+  pub plain-sizes : PlainSizes
   pub plain-holds : (t : Bytes) (old o : Areas) (counts : Counts) → readCall fold t old ≡ accepted (counts .names) (counts .rules) o
       → (model : List ℕ) → rowWords ≤ length model → PlainHolds fold t (o .spellings) (counts .names) (plainCall (rulesOf o) counts model)
   -- so the held names are alike under every two fold numbers, and by the plain route

@@ -8,7 +8,7 @@ use Rattle.limits.specs.Book.{listingBytes}
 use Rattle.sets.specs.Set.{Set, pick, count, members}
 use Rattle.grammar.specs.Bytes.{Bytes, bytes}
 use Rattle.grammar.specs.Grammar.{joined}
-use Rattle.tables.specs.Areas.{filled}
+use Rattle.areas.specs.Area.{filled}
 
 -- the figure of a number below ten
 abbrev pub figure : ℕ → ℕ

@@ -9,7 +9,8 @@ use lib.ListN.{length, getD}
 use Rattle.limits.specs.Book.{names, nameBytes, listingBytes}
 use Rattle.grammar.specs.Bytes.{Bytes, allOf, Among}
 use Rattle.grammar.specs.Grammar.{Unbroken, joined}
-use Rattle.tables.specs.Areas.{lookUp, filled, nonzero}
+use Rattle.areas.specs.Area.{filled}
+use Rattle.tables.specs.Areas.{lookUp, nonzero}
 use Rattle.systems.specs.Rounds.{modelIn}
 use Rattle.solving.specs.Listing.{headLine}
 use Rattle.solving.specs.Solve.{SolveOutcome}

@@ -2,12 +2,14 @@
 -- proofs/Sizes.antt.
 -- Assumes nothing.
 use mathlib.Core.Path.{_≡_}
-use mathlib.Core.List.{_++_}
+use mathlib.Core.List.{List, _++_}
 use Prim.Native.Nat.{ℕ}
 use lib.ListN.{take, drop}
 use Rattle.limits.specs.Book.{rowWords, rowArea, listingBytes}
 use Rattle.grammar.specs.Bytes.{Bytes}
-use Rattle.tables.specs.Sizes.{statedTables, tablesWithRest}
+use Rattle.tables.specs.Areas.{RuleTables, Counts}
+use Rattle.tables.specs.Sizes.{statedTables, statedRules, tablesWithRest}
+use Rattle.solving.specs.Plain.{PlainOutcome, plainCall}
 use Rattle.solving.specs.Solve.{SolveAreas, SolveOutcome, solveCall}
 
 -- the areas, cut to their stated sizes
@@ -42,3 +44,13 @@ solveWithRest o r = record { answer = r .answer; areas = areasWithRest o (r .are
 abbrev pub SolveSizes : (ℕ → ℕ) → Type 0
 SolveSizes fold =
     (t : Bytes) (k : ℕ) (old : SolveAreas) → solveCall fold t k old ≡ solveWithRest old (solveCall fold t k (cutAreas old))
+
+-- what the plain route returns and leaves of areas cut so, with what was cut off put after
+abbrev pub plainWithRest : List ℕ → PlainOutcome → PlainOutcome
+plainWithRest model r = record { number = r .number; held = r .held; rounds = r .rounds; model = r .model ++ drop rowWords model }
+
+-- the same for the plain route
+abbrev pub PlainSizes : Type 0
+PlainSizes =
+    (tables : RuleTables) (counts : Counts) (model : List ℕ)
+    → plainCall tables counts model ≡ plainWithRest model (plainCall (statedRules tables) counts (take rowWords model))

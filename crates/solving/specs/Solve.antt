@@ -16,7 +16,8 @@ use Rattle.grammar.specs.Bytes.{Bytes}
 use Rattle.grammar.specs.Grammar.{Clause}
 use Rattle.tables.specs.Numbering.{namesOf, programOf}
 use Rattle.tables.specs.Reading.{Reading, read, refused, bookOf}
-use Rattle.tables.specs.Areas.{Areas, short, filled, tablesOf, refusal}
+use Rattle.areas.specs.Area.{filled}
+use Rattle.tables.specs.Areas.{Areas, short, tablesOf, refusal}
 use Rattle.systems.specs.Rows.{packed, below}
 use Rattle.systems.specs.Rounds.{withModel}
 use Rattle.solving.specs.Listing.{listed}

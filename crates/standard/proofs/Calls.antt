@@ -1,26 +1,25 @@
 -- The outcomes of the call.
 -- Assumes nothing.
-use mathlib.Core.Path.{_≡_, refl, sym, ap, _∙_, subst}
+use mathlib.Core.Path.{_≡_, sym, ap, _∙_, subst}
 use mathlib.Core.Bool.{Bool, true, false, not, _||_}
-use mathlib.Core.List.{List, _++_}
+use mathlib.Core.List.{List}
 use Prim.Native.Nat.{ℕ, _+_, _-_, _*_, _≤_, _<_}
 use native.Mathlib.Omega.{arith}
 use lib.Dec.{ltb}
-use lib.ListN.{length, getD, drop, replicate}
-use lib.Seq.{drop-at}
+use lib.ListN.{length, getD}
 use borrow.Author.Tests.{lt-ltb, le-ltb, ltb-false, not-true}
 use Rattle.limits.specs.Book.{names, rules, atoms, wordBits, rowWords, bodyWords, bodyArea, rowArea}
 use Rattle.sets.specs.Set.{Set, count, only, emptySet}
 use Rattle.sets.proofs.Logic.{or-left, or-right, or-none}
 use Rattle.sets.proofs.Counting.{count-le}
-use Rattle.words.specs.Row.{row, part, pack}
+use Rattle.areas.specs.Area.{part, begun, filled}
+use Rattle.words.specs.Row.{row, pack}
 use Rattle.program.specs.Program.{Program}
 use Rattle.program.specs.System as System
 use Rattle.program.specs.Standard.{allRow, anyRow, startSet, standard}
 use Rattle.program.proofs.Theorems.{kinds}
-use Rattle.tables.specs.Areas.{RuleTables, Counts, filled, programIn}
-use Rattle.tables.specs.Begun.{begun}
-use Rattle.tables.proofs.Encoding.{length-filled, filled-is}
+use Rattle.tables.specs.Areas.{RuleTables, Counts, programIn}
+use Rattle.areas.proofs.Filled.{length-filled, filled-begun, filled-again}
 use Rattle.systems.specs.Rows.{RowAreas, packed}
 use Rattle.systems.specs.Rounds.{withModel, shortSystem}
 use Rattle.systems.specs.Standardise.{StandardOutcome, shortRules, shortTables, formedTables, standardRefusal, standardRows, standardCall}
@@ -81,23 +80,6 @@ module _ (h b a y m : ℕ) where
       )
 
 -- Areas filled and then begun again.
-
--- an area filled with xs is begun with them
-filled-begun : (size : ℕ) (xs old area : List ℕ) → area ≡ filled size xs old → area ≡ begun xs area
-unfolding begun
-filled-begun size xs old area e =
-    let rest : List ℕ = replicate (size - length xs) 0 ++ drop size old in
-    let q : area ≡ xs ++ rest = e ∙ filled-is size xs old in
-    q ∙ ap (λ (t : List ℕ). xs ++ t) (sym (ap (drop (length xs)) q ∙ drop-at xs rest (length xs) refl))
-
--- begun with as many other words, it is filled with those
-filled-again : (size : ℕ) (xs ys old area new : List ℕ) → length ys ≡ length xs → area ≡ filled size xs old → new ≡ begun ys area
-    → new ≡ filled size ys old
-unfolding begun
-filled-again size xs ys old area new l e q =
-    let rest : List ℕ = replicate (size - length xs) 0 ++ drop size old in
-    q ∙ ap (λ (t : List ℕ). ys ++ t) (ap (drop (length ys)) (e ∙ filled-is size xs old) ∙ drop-at xs rest (length ys) (sym l))
-    ∙ ap (λ (k : ℕ). ys ++ (replicate (size - k) 0 ++ drop size old)) (sym l) ∙ sym (filled-is size ys old)
 
 -- outcomes that are the same in every part
 same-outcome : {k k′ c c′ h h′ : ℕ} {x x′ y y′ z z′ : List ℕ} → k ≡ k′ → c ≡ c′ → h ≡ h′ → x ≡ x′ → y ≡ y′ → z ≡ z′

@@ -4,7 +4,7 @@ use limits::Refusal;
 ghost use mathlib.Core.Path.{_≡_};
 ghost use mathlib.Core.Bool.{true};
 ghost use Rattle.limits.specs.Book.{rowArea};
-ghost use Rattle.rows.specs.Clear.{Clear};
+ghost use Rattle.areas.specs.Area.{Clear};
 ghost use Rattle.systems.specs.Standardise.{formedTables, standardCall};
 ghost use Rattle.systems.specs.Claims.{StandardLong};
 ghost use Rattle.standard.specs.Short.{shortStandard};

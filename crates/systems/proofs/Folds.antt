@@ -15,13 +15,13 @@ use Rattle.limits.proofs.Causes.{without, one-found}
 use Rattle.sets.specs.Set.{Set, pick}
 use Rattle.sets.proofs.Logic.{either, clash, not-true, and-left, and-right, and-make, or-left, or-right, or-elim, holds, fails, pick-true, pick-false}
 use Rattle.program.specs.System.{rowsAfter}
-use Rattle.tables.specs.Areas.{filled}
-use Rattle.tables.proofs.Encoding.{filled-is}
+use Rattle.areas.specs.Area.{filled}
+use Rattle.areas.proofs.Filled.{filled-is}
 use Rattle.systems.specs.Rows.{rowIn, formedRows}
 use Rattle.systems.specs.Fold.{FoldOutcome, shortRows, formedAll, foldRefusal, foldedArea, foldCall}
 use Rattle.systems.specs.Claims.{FoldLong, FoldFormed, Folds}
 use Rattle.systems.proofs.Packed.{row-begun, row-begun-past, row-in-past}
-use Rattle.systems.proofs.Formed.{formed-at, formed-make, unfolded-in}
+use Rattle.systems.proofs.Formed.{formed-at, formed-make, after-in}
 
 -- The tests of the call.
 
@@ -91,7 +91,7 @@ module _ (all spare : List ℕ) (m k : ℕ) where
   folded-rows f i l a =
       let rows : ℕ → Set = rowsAfter k m (rowIn rowWords all) in
       let limit : m ≤ atoms = f .0 in
-      let inside : rows i a ≡ true → (i < m) × (a < m) = unfolded-in k atoms m (rowIn rowWords all) limit (f .1) i a l in
+      let inside : rows i a ≡ true → (i < m) × (a < m) = after-in k atoms m (rowIn rowWords all) limit (f .1) i a l in
       either (ltb i m)
       (λ t.
       either (ltb a (rowWords * wordBits))

@@ -63,10 +63,10 @@ unfold-in n m rows b h i k l e =
     let q = unfold-find m rows i k e in
     (h i (q .0) l (q .2) .0, h (q .0) k (le-trans (q .1) b) (q .3) .1)
 
-pub unfolded-in : (k n m : ℕ) (rows : ℕ → Set) → m ≤ n → Below n m rows → Below n m (rowsAfter k m rows)
+pub after-in : (k n m : ℕ) (rows : ℕ → Set) → m ≤ n → Below n m rows → Below n m (rowsAfter k m rows)
 unfolding rowsAfter
-unfolded-in zero n m rows b h = h
-unfolded-in (suc k) n m rows b h = unfold-in n m (rowsAfter k m rows) b (unfolded-in k n m rows b h)
+after-in zero n m rows b h = h
+after-in (suc k) n m rows b h = unfold-in n m (rowsAfter k m rows) b (after-in k n m rows b h)
 
 -- rows that are the same below m are folded alike
 pub unfold-same : (m : ℕ) (f g : ℕ → Set) → ((i : ℕ) → i < m → Same m (f i) (g i))
@@ -75,11 +75,11 @@ unfolding unfoldOnce
 unfold-same m f g h i l a b =
     exists-same m (λ j. f i j && f j a) (λ j. g i j && g j a) (λ j c. ap₂ _&&_ (h i l j c) (h j c a b))
 
-pub unfolded-same : (k m : ℕ) (f g : ℕ → Set) → ((i : ℕ) → i < m → Same m (f i) (g i))
+pub after-same : (k m : ℕ) (f g : ℕ → Set) → ((i : ℕ) → i < m → Same m (f i) (g i))
     → (i : ℕ) → i < m → Same m (rowsAfter k m f i) (rowsAfter k m g i)
 unfolding rowsAfter
-unfolded-same zero m f g h = h
-unfolded-same (suc k) m f g h = unfold-same m (rowsAfter k m f) (rowsAfter k m g) (unfolded-same k m f g h)
+after-same zero m f g h = h
+after-same (suc k) m f g h = unfold-same m (rowsAfter k m f) (rowsAfter k m g) (after-same k m f g h)
 
 -- Rounds.
 

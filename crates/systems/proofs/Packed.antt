@@ -2,26 +2,27 @@
 -- Assumes nothing.
 use mathlib.Core.Path.{_≡_, refl, sym, ap, ap₂, _∙_}
 use mathlib.Core.Bool.{Bool, false, _&&_, _||_}
-use mathlib.Core.List.{List, _∷_, _++_, append-assoc, append-nil}
+use mathlib.Core.List.{List, _∷_, _++_, append-assoc}
 use Prim.Native.Nat.{ℕ, zero, suc, _+_, _-_, _*_, _/_, _%_, _≤_, _<_}
 use native.Mathlib.Nat.{zero-mul, zero-add, suc-add, suc-mul, mul-le-mul-right, lt-suc-self, le-step, le-antisymm}
 use native.Mathlib.Numerals.{add-one}
 use native.Mathlib.Omega.{arith}
 use lib.Dec.{eqb, ltb}
 use borrow.Author.Tests.{eq-eqb, ne-eqb, lt-ltb, le-ltb, ltb-true, ltb-false}
-use lib.ListN.{length, getD, take, drop, replicate, length-append, length-take, length-replicate, take-append-drop, drop-of-length-le, getD-replicate, replicate-append-replicate, List·getD-append}
+use lib.ListN.{length, getD, take, drop, replicate, length-append, length-take, length-replicate, take-append-drop, getD-replicate, replicate-append-replicate, List·getD-append}
 use lib.Seq.{getD-append-add, take-at, drop-at, take-add}
 use Rattle.limits.specs.Book.{wordBits}
 use Rattle.sets.specs.Set.{Set, Same, pick, emptySet, only, union}
 use Rattle.sets.proofs.Logic.{either, pick-true, pick-false}
 use Rattle.sets.proofs.Tests.{below-suc}
-use Rattle.words.specs.Row.{row, bit, Words, binary, pack, part, put}
+use Rattle.areas.specs.Area.{part, put, begun, filled}
+use Rattle.words.specs.Row.{row, bit, Words, binary, pack}
 use Rattle.words.proofs.Bits.{bit-zero}
 use Rattle.words.proofs.Rows.{length-pack, row-pack, row-past, row-part, pack-same, pack-row, pack-empty}
-use Rattle.words.proofs.Areas.{length-part, words-part, put-over}
-use Rattle.tables.specs.Areas.{filled}
-use Rattle.tables.specs.Begun.{begun}
-use Rattle.tables.proofs.Encoding.{filled-is, begun-none, length-begun, drop-begun, used, put-begun}
+use Rattle.areas.proofs.Parts.{length-part, put-over}
+use Rattle.areas.proofs.Begun.{begun-none, length-begun, drop-begun, used, put-begun, begun-begun, zeros-front}
+use Rattle.areas.proofs.Filled.{filled-is}
+use Rattle.words.proofs.Areas.{words-part}
 use Rattle.systems.specs.Rows.{rowIn, packed, below}
 
 -- The words of rows.
@@ -222,27 +223,7 @@ begun-rows w m area p h =
     ap₂ (λ (s : List ℕ) (k : ℕ). s ++ drop k area) (take-rows w m area p h) (length-packed w m (rowIn w area))
     ∙ take-append-drop (m * w) area
 
--- begun again with as many words
-pub begun-begun : (xs ys old : List ℕ) → length xs ≡ length ys → begun xs (begun ys old) ≡ begun xs old
-unfolding begun
-begun-begun xs ys old e = ap (λ (t : List ℕ). xs ++ t) (drop-begun (length xs) ys old (omega arith))
-
 -- Words and sets at the front of an area.
-
--- words put there
-pub put-front : (xs old : List ℕ) → put 0 xs old ≡ begun xs old
-unfolding begun
-put-front xs old = ap (λ (k : ℕ). xs ++ drop k old) (zero-add (length xs))
-
--- words put over the whole of it
-pub begun-whole : (xs old : List ℕ) → length old ≤ length xs → begun xs old ≡ xs
-unfolding begun
-begun-whole xs old h = ap (λ (t : List ℕ). xs ++ t) (drop-of-length-le old h) ∙ append-nil xs
-
--- zeros
-pub zeros-front : (u : ℕ) (old : List ℕ) → replicate u 0 ++ drop u old ≡ begun (replicate u 0) old
-unfolding begun
-zeros-front u old = ap (λ (k : ℕ). replicate u 0 ++ drop k old) (sym (length-replicate u 0))
 
 -- a set in w words
 module _ (w : ℕ) where

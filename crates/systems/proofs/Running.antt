@@ -18,16 +18,17 @@ use Rattle.sets.proofs.Logic.{either, clash, not-true, iff, and-left, and-right
 use Rattle.sets.proofs.Tests.{exists-find, exists-none, within-at, within-make, within-same, same-at, same-make, same-within, same-sym}
 use Rattle.sets.proofs.Rounds.{rounds-first, reached-least}
 use Rattle.sets.proofs.Running.{step-sees, rounds-few}
-use Rattle.words.specs.Row.{Words, pack, part, put}
+use Rattle.areas.specs.Area.{part, put}
+use Rattle.words.specs.Row.{Words, pack}
 use Rattle.words.proofs.Rows.{length-pack}
 use Rattle.program.specs.System.{System, round, rowsAfter, roundsOf, heldBy}
 use Rattle.program.proofs.Folds.{round-folded}
 use Rattle.program.proofs.Alike as Alike
-use Rattle.tables.proofs.Encoding.{drop-begun}
+use Rattle.areas.proofs.Begun.{drop-begun, put-front}
 use Rattle.systems.specs.Rows.{RowAreas, below, formedRows}
 use Rattle.systems.specs.Rounds.{RoundsOutcome, modelIn, withModel, systemIn, shortSystem, formedSystem, startKept, roundsRefusal, roundsMade, roundsCall}
 use Rattle.systems.specs.Claims.{RoundsLong, RoundsFormed, Lost, Runs}
-use Rattle.systems.proofs.Packed.{part-past, put-front, set-none, set-words, set-row, length-set, set-again, set-same, set-known, set-joined, set-below, set-below-past}
+use Rattle.systems.proofs.Packed.{part-past, set-none, set-words, set-row, length-set, set-again, set-same, set-known, set-joined, set-below, set-below-past}
 use Rattle.systems.proofs.Formed.{formed-at, formed-make, within-fewer}
 
 -- The model area: what holds of a set at the front of an area, at its width.

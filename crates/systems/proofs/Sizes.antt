@@ -21,8 +21,9 @@ use Rattle.program.specs.System.{System, round, unfoldOnce, rowsAfter, roundsOf
 use Rattle.program.specs.Standard.{allRow, anyRow, startSet, standard}
 use Rattle.tables.specs.Areas.{RuleTables, Counts, programIn}
 use Rattle.tables.specs.Sizes.{statedRules}
-use Rattle.tables.proofs.Sizes.{both-parts, short-first, part-first, begun-first, filled-first, pick-first, rules-first}
-use Rattle.tables.specs.Begun.{begun}
+use Rattle.areas.proofs.First.{both-parts, part-first, begun-first, filled-first}
+use Rattle.tables.proofs.Sizes.{short-first, pick-first, rules-first}
+use Rattle.areas.specs.Area.{begun}
 use Rattle.systems.specs.Rows.{RowAreas, rowIn, packed, below, formedRows}
 use Rattle.systems.specs.Fold.{FoldOutcome, shortRows, formedAll, foldRefusal, foldedArea, foldCall}
 use Rattle.systems.specs.Rounds.{RoundsOutcome, modelIn, withModel, systemIn, shortSystem, formedSystem, startKept, roundsRefusal, roundsMade, roundsCall}
@@ -61,10 +62,10 @@ unfold-rows m f g h i l =
     fun-ext (λ a. exists-same m (λ j. f i j && f j a) (λ j. g i j && g j a)
     (λ j b. ap₂ (λ (s t : Set). s j && t a) (h i l) (h j b)))
 
-unfolded-rows : (k m : ℕ) (f g : ℕ → Set) → ((i : ℕ) → i < m → f i ≡ g i) → (i : ℕ) → i < m → rowsAfter k m f i ≡ rowsAfter k m g i
+after-rows : (k m : ℕ) (f g : ℕ → Set) → ((i : ℕ) → i < m → f i ≡ g i) → (i : ℕ) → i < m → rowsAfter k m f i ≡ rowsAfter k m g i
 unfolding rowsAfter
-unfolded-rows zero m f g h = h
-unfolded-rows (suc k) m f g h = unfold-rows m (rowsAfter k m f) (rowsAfter k m g) (unfolded-rows k m f g h)
+after-rows zero m f g h = h
+after-rows (suc k) m f g h = unfold-rows m (rowsAfter k m f) (rowsAfter k m g) (after-rows k m f g h)
 
 -- the folded rows
 folded-first : (k m : ℕ) (all : List ℕ) → m ≤ atoms → foldedArea k m all ≡ foldedArea k m (take rowArea all) ++ drop rowArea all
@@ -73,7 +74,7 @@ folded-first k m all l =
     let f : ℕ → Set = rowsAfter k m (rowIn rowWords all) in
     let g : ℕ → Set = rowsAfter k m (rowIn rowWords (take rowArea all)) in
     let same : (i : ℕ) → i < m → f i ≡ g i =
-    unfolded-rows k m (rowIn rowWords all) (rowIn rowWords (take rowArea all)) (row-first rowWords m rowArea all (omega arith))
+    after-rows k m (rowIn rowWords all) (rowIn rowWords (take rowArea all)) (row-first rowWords m rowArea all (omega arith))
     in
     begun-first rowArea (packed rowWords m f) all (omega (arith, length-packed rowWords m f))
     ∙ ap (λ (ws : List ℕ). begun ws (take rowArea all) ++ drop rowArea all)
@@ -102,7 +103,7 @@ model-first : (model : List ℕ) → modelIn model ≡ modelIn (take rowWords mo
 model-first model = ap row (part-first 0 rowWords rowWords model (omega arith))
 
 -- a set put into it
-with-model-first : (f : Set) (model : List ℕ) → withModel f model ≡ withModel f (take rowWords model) ++ drop rowWords model
+pub with-model-first : (f : Set) (model : List ℕ) → withModel f model ≡ withModel f (take rowWords model) ++ drop rowWords model
 unfolding withModel
 with-model-first f model = begun-first rowWords (pack rowWords f) model (omega (arith, length-pack rowWords f))
 
@@ -193,13 +194,13 @@ module _ (tables : RuleTables) (counts : Counts) where
       (eqb x 0 && not (exists (bodyWords * wordBits) f)))
       (head-first j l) (body-first j l)
 
-  formed-tables-first : formedTables tables counts ≡ formedTables (statedRules tables) counts
+  pub formed-tables-first : formedTables tables counts ≡ formedTables (statedRules tables) counts
   unfolding formedTables
   formed-tables-first =
       ap (λ (b : Bool). (leb (counts .names) names && leb (counts .rules) rules) && b)
       (every-same rules (formedEntry tables counts) (formedEntry (statedRules tables) counts) entry-first)
 
-  program-first : counts .rules ≤ rules → programIn tables counts ≡ programIn (statedRules tables) counts
+  pub program-first : counts .rules ≤ rules → programIn tables counts ≡ programIn (statedRules tables) counts
   program-first b = ap (λ (rs : List (Rule ℕ)). record { names = counts .names; rules = rs }) (rules-first tables (counts .rules) 0 (omega arith))
 
 module _ (o : RowAreas) where

@@ -21,14 +21,15 @@ use Rattle.program.specs.Claims.{LeastModel}
 use Rattle.program.proofs.Homes.{names-below}
 use Rattle.program.proofs.Theorems.{least-model}
 use Rattle.tables.specs.Areas.{RuleTables, Counts, programIn}
-use Rattle.tables.proofs.Encoding.{length-begun, length-filled}
+use Rattle.areas.proofs.Begun.{length-begun}
+use Rattle.areas.proofs.Filled.{length-filled}
 use Rattle.systems.specs.Rows.{RowAreas, rowIn, packed}
 use Rattle.systems.specs.Fold.{FoldOutcome, shortRows, formedAll, foldedArea, foldCall}
 use Rattle.systems.specs.Rounds.{RoundsOutcome, modelIn, systemIn, startKept, roundsMade}
 use Rattle.systems.specs.Standardise.{StandardOutcome, shortTables, formedTables, standardRows, standardOf, standardCall}
 use Rattle.systems.specs.Claims.{InCount, RoundsLong, Folds, Standardises, foldAfter, roundsAfter, Stages}
 use Rattle.systems.proofs.Packed.{length-packed}
-use Rattle.systems.proofs.Formed.{unfolded-in, unfolded-same, round-same}
+use Rattle.systems.proofs.Formed.{after-in, after-same, round-same}
 use Rattle.systems.proofs.Folds.{rows-long, all-formed, folds-rows}
 use Rattle.systems.proofs.Standard.{all-within, any-within, start-within, standardises}
 use Rattle.systems.proofs.Running.{length-model, model-below, call-runs}
@@ -160,7 +161,7 @@ module _
     all-same : (i : ℕ) → i < M → Same M (rowIn rowWords (F .all) i) (D .all i)
     all-same i l a b =
         fold-claims .rows fold-number i (omega (arith, limit)) a
-        ∙ unfolded-same k M (rowIn rowWords (r .areas .all)) (allRow p) (λ i l a b. st .all-row z i l a) i l a b
+        ∙ after-same k M (rowIn rowWords (r .areas .all)) (allRow p) (λ i l a b. st .all-row z i l a) i l a b
         ∙ ap (λ (x : ℕ). rowsAfter k x (allRow p) i a) is-atoms
 
     -- they make the same rounds, from the same start
@@ -173,7 +174,7 @@ module _
     -- so the rounds are not refused
     folded-in : InCount M (F .all)
     folded-in i a l t =
-        unfolded-in k atoms M (rowIn rowWords (r .areas .all)) limit all-in i a l (sym (fold-claims .rows fold-number i l a) ∙ t)
+        after-in k atoms M (rowIn rowWords (r .areas .all)) limit all-in i a l (sym (fold-claims .rows fold-number i l a) ∙ t)
 
     claims : LeastModel p k
     claims = least-model p formed k

@@ -23,7 +23,8 @@ use Rattle.program.specs.System.{Regular, anyHead}
 use Rattle.program.specs.Standard.{home, hasBody, countedAtoms, allRow, anyRow, startSet, standard}
 use Rattle.program.proofs.Homes.{helper-below, names-below, home-below, any-find}
 use Rattle.program.proofs.Theorems.{kinds, standard-regular}
-use Rattle.tables.specs.Areas.{RuleTables, Counts, filled, programIn}
+use Rattle.areas.specs.Area.{filled}
+use Rattle.tables.specs.Areas.{RuleTables, Counts, programIn}
 use Rattle.systems.specs.Rows.{RowAreas, rowIn, packed}
 use Rattle.systems.specs.Rounds.{modelIn, withModel, shortSystem}
 use Rattle.systems.specs.Standardise.{StandardOutcome, shortRules, shortTables, formedTables, standardRefusal, standardRows, standardOf, standardCall}

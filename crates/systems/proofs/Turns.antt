@@ -11,7 +11,8 @@ use Rattle.sets.specs.Set.{Set, Within, Same, same}
 use Rattle.sets.specs.Steps.{Monotone, rounds, reached}
 use Rattle.sets.proofs.Tests.{same-at}
 use Rattle.sets.proofs.Running.{Running, run-begin, run-on, run-bound, run-count, run-held}
-use Rattle.words.specs.Row.{row, part, put}
+use Rattle.areas.specs.Area.{part, put}
+use Rattle.words.specs.Row.{row}
 use Rattle.systems.specs.Rows.{below}
 use Rattle.systems.specs.Rounds.{modelIn, withModel}
 use Rattle.systems.proofs.Running.{model-words, model-row, model-again, model-same, model-put, model-below, model-below-past, Ends, below-ends, below-same, same-ends}

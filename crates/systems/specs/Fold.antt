@@ -8,8 +8,7 @@ use lib.ListN.{length}
 use Rattle.limits.specs.Book.{atoms, folds, rowWords, rowArea}
 use Rattle.sets.specs.Set.{pick}
 use Rattle.program.specs.System.{rowsAfter}
-use Rattle.tables.specs.Areas.{filled}
-use Rattle.tables.specs.Begun.{begun}
+use Rattle.areas.specs.Area.{begun, filled}
 use Rattle.systems.specs.Rows.{rowIn, packed, formedRows}
 
 -- what the call returns and leaves

@@ -7,9 +7,9 @@ use lib.Dec.{leb, ltb}
 use lib.ListN.{length}
 use Rattle.limits.specs.Book.{atoms, wordBits, rowWords, rowArea}
 use Rattle.sets.specs.Set.{Set, pick, within, emptySet}
-use Rattle.words.specs.Row.{row, part, pack}
+use Rattle.areas.specs.Area.{part, begun}
+use Rattle.words.specs.Row.{row, pack}
 use Rattle.program.specs.System.{System, round, roundsOf, heldBy}
-use Rattle.tables.specs.Begun.{begun}
 use Rattle.systems.specs.Rows.{RowAreas, rowIn, below, formedRows}
 
 -- the set in a model area

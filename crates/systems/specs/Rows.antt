@@ -6,7 +6,8 @@ use Prim.Native.Nat.{ℕ, zero, suc, _*_}
 use lib.Dec.{ltb}
 use Rattle.limits.specs.Book.{wordBits}
 use Rattle.sets.specs.Set.{Set, every, within}
-use Rattle.words.specs.Row.{row, part, pack}
+use Rattle.areas.specs.Area.{part}
+use Rattle.words.specs.Row.{row, pack}
 
 -- the areas of a system: its "all" rows, its "any" rows and its start or last set
 pub record RowAreas : Type 0 where

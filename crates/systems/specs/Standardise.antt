@@ -10,7 +10,8 @@ use Rattle.sets.specs.Set.{pick, every, exists, within}
 use Rattle.program.specs.Program.{Program}
 use Rattle.program.specs.System as System
 use Rattle.program.specs.Standard.{allRow, anyRow, startSet, standard}
-use Rattle.tables.specs.Areas.{RuleTables, Counts, filled, programIn}
+use Rattle.areas.specs.Area.{filled}
+use Rattle.tables.specs.Areas.{RuleTables, Counts, programIn}
 use Rattle.systems.specs.Rows.{RowAreas, rowIn, packed}
 use Rattle.systems.specs.Rounds.{withModel, shortSystem}
 

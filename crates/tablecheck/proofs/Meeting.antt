@@ -12,7 +12,8 @@ use lib.ListN.{getD}
 use Rattle.limits.specs.Book.{names, bodyWords}
 use Rattle.sets.specs.Set.{Set, pick, next, members}
 use Rattle.sets.proofs.Logic.{either, pick-true, pick-false}
-use Rattle.words.specs.Row.{row, part}
+use Rattle.areas.specs.Area.{part}
+use Rattle.words.specs.Row.{row}
 use Rattle.tables.specs.Areas.{RuleTables, ruleTables, ruleAt, rulesFrom, rulesIn}
 use Rattle.tables.specs.Writing.{orderly, metIn, numbersOf, numbersIn}
 use Rattle.tablecheck.specs.Order.{counted, ordered}

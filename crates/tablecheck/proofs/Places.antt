@@ -8,7 +8,7 @@ use native.Mathlib.Numerals.{add-one}
 use native.Mathlib.Omega.{arith}
 use lib.ListN.{length, getD, take}
 use lib.Seq.{drop-cons}
-use Rattle.words.specs.Row.{part}
+use Rattle.areas.specs.Area.{part}
 use Rattle.sets.specs.Set.{pick}
 use Rattle.grammar.specs.Bytes.{allOf}
 use Rattle.grammar.specs.Lines.{span}

@@ -12,7 +12,7 @@ use lib.Seq.{length-take-le, take-take, take-nil, drop-drop}
 use borrow.Author.Tests.{eq-eqb, ne-eqb, le-leb, lt-leb, leb-true, leb-false, eqb-true, not-false}
 use Rattle.limits.specs.Book.{nameBytes}
 use Rattle.sets.proofs.Logic.{either}
-use Rattle.words.specs.Row.{part}
+use Rattle.areas.specs.Area.{part}
 use Rattle.grammar.specs.Bytes.{Bytes, allOf}
 use Rattle.grammar.specs.Lines.{span, run}
 use Rattle.grammar.proofs.Spans.{span-le, run-yes, run-no}

@@ -8,7 +8,7 @@ ghost use Prim.Native.Nat.{_+_, _-_, _*_, _<_, _≤_};
 ghost use lib.ListN.{length};
 ghost use Rattle.limits.specs.Book.{names, nameBytes, nameArea};
 ghost use Rattle.sets.specs.Set.{every};
-ghost use Rattle.words.specs.Row.{part};
+ghost use Rattle.areas.specs.Area.{part};
 ghost use Rattle.scan.specs.Fold.{FoldTable};
 ghost use Rattle.grammar.specs.Bytes.{letters, allOf};
 ghost use Rattle.tables.specs.Numbering.{sameBytes};

@@ -18,7 +18,8 @@ use Rattle.grammar.specs.Grammar.{Clause}
 use Rattle.grammar.proofs.Forms.{fault-cause}
 use Rattle.tables.specs.Numbering.{namesOf}
 use Rattle.tables.specs.Reading.{Reading, read, refused, reading, Book, Barred, Refusal}
-use Rattle.tables.specs.Areas.{Areas, Outcome, filled, nameRows, headRows, bodyRows, filledWith, short, tablesOf, refusal, outcome, readCall}
+use Rattle.areas.specs.Area.{filled}
+use Rattle.tables.specs.Areas.{Areas, Outcome, nameRows, headRows, bodyRows, filledWith, short, tablesOf, refusal, outcome, readCall}
 use Rattle.tables.specs.Claims.{Refuses, Reads, ReadLeaves, ReadCalls, accepted, refusedWith, zeroed}
 
 -- a refusal's number and line

@@ -8,18 +8,21 @@ use native.Mathlib.Omega.{arith}
 use lib.Dec.{eqb, ltb}
 use borrow.Author.Tests.{eqb-true, ltb-true, ltb-false, le-ltb}
 use lib.ListN.{length, getD, take, drop, replicate, length-append, length-take, length-drop, length-replicate, take-append-drop}
-use lib.Seq.{take-at, drop-at, take-append-seam, drop-append-seam, drop-append-add, drop-drop, drop-cons, take-add}
+use lib.Seq.{take-at, take-append-seam, drop-append-seam, drop-append-add, drop-drop, drop-cons, take-add}
 use Rattle.limits.specs.Book.{names, nameBytes, rules, bodyWords, nameArea, bodyArea}
 use Rattle.sets.specs.Set.{Set, pick}
 use Rattle.sets.proofs.Logic.{either, and-left, and-right, or-none, pick-true}
-use Rattle.words.specs.Row.{row, Words, pack, part, put}
+use Rattle.areas.specs.Area.{part, begun, filled}
+use Rattle.words.specs.Row.{row, Words, pack}
 use Rattle.words.proofs.Rows.{length-pack, row-pack, row-past, pack-row}
-use Rattle.words.proofs.Areas.{length-part, words-part}
+use Rattle.areas.proofs.Parts.{length-part}
+use Rattle.areas.proofs.Begun.{used}
+use Rattle.areas.proofs.Filled.{filled-is}
+use Rattle.words.proofs.Areas.{words-part}
 use Rattle.program.specs.Program.{Rule, noRule}
 use Rattle.grammar.specs.Bytes.{Bytes, allOf}
 use Rattle.grammar.specs.Lines.{span, run}
-use Rattle.tables.specs.Areas.{Areas, RuleTables, rulesOf, short, filled, filledWith, padded, nameRows, headRows, bodyRows, nonzero}
-use Rattle.tables.specs.Begun.{begun}
+use Rattle.tables.specs.Areas.{Areas, RuleTables, rulesOf, short, filledWith, padded, nameRows, headRows, bodyRows, nonzero}
 use Rattle.tables.specs.Areas.{nameAt, namesFrom, namesIn, ruleAt, rulesFrom, rulesIn}
 use Rattle.tables.specs.Writing.{zeroFrom}
 
@@ -363,19 +366,6 @@ filled-same size xs old h g e z =
     ∙ take-append-drop (size - length xs) (drop (length xs) old))
     ∙ take-append-drop (length xs) old
 
--- a filled area is as long as it was
-pub length-filled : (size : ℕ) (xs old : List ℕ) → length xs ≤ size → size ≤ length old → length (filled size xs old) ≡ length old
-unfolding filled
-length-filled size xs old h g = simp (length-append, length-replicate, length-drop) (omega arith)
-
--- past its stated size it is as it was
-pub drop-filled : (size : ℕ) (xs old : List ℕ) → length xs ≤ size → drop size (filled size xs old) ≡ drop size old
-unfolding filled
-drop-filled size xs old h =
-    let z : List ℕ = replicate (size - length xs) 0 in
-    let n : length (xs ++ z) ≡ size = simp (length-append, length-replicate) (omega arith) in
-    ap (drop size) (sym (append-assoc xs z (drop size old))) ∙ drop-at (xs ++ z) (drop size old) size n
-
 -- past the used part there are zeros up to the stated size
 pub zero-filled : (size : ℕ) (xs old : List ℕ) → zeroFrom (length xs) size (filled size xs old) ≡ true
 unfolding filled zeroFrom
@@ -385,11 +375,6 @@ zero-filled size xs old =
     ∙ ap (allOf (λ (b : ℕ). eqb b 0))
     (take-at (replicate (size - length xs) 0) (drop size old) (size - length xs) (length-replicate (size - length xs) 0))
     ∙ zero-all (size - length xs)
-
--- what follows the used part
-pub filled-is : (size : ℕ) (xs old : List ℕ) → filled size xs old ≡ xs ++ (replicate (size - length xs) 0 ++ drop size old)
-unfolding filled
-filled-is size xs old = refl
 
 -- the names and the rules read from areas filled with them
 pub names-filled : (ns : List Bytes) (old : List ℕ) → AllFine ns → namesIn (filled nameArea (nameRows ns) old) (length ns) ≡ ns
@@ -405,40 +390,3 @@ rules-filled ns rs old h =
     (filled-is rules (headRows rs) (old .heads)) (filled-is bodyArea (bodyRows rs) (old .bodies)) h
 
 -- Areas begun.
-
--- nothing used yet
-pub begun-none : (old : List ℕ) → begun [] old ≡ old
-unfolding begun
-begun-none old = refl
-
--- an area begun is as long as it was
-pub length-begun : (xs old : List ℕ) → length xs ≤ length old → length (begun xs old) ≡ length old
-unfolding begun
-length-begun xs old h = simp (length-append, length-drop) (omega arith)
-
--- what lies past the used part is as it was
-pub drop-begun : (k : ℕ) (xs old : List ℕ) → length xs ≤ k → drop k (begun xs old) ≡ drop k old
-unfolding begun
-drop-begun k xs old h =
-    let q : k ≡ length xs + (k - length xs) = omega arith in
-    ap (λ (i : ℕ). drop i (xs ++ drop (length xs) old)) q ∙ drop-append-add xs (drop (length xs) old) (k - length xs)
-    ∙ drop-drop (k - length xs) (length xs) old ∙ ap (λ (i : ℕ). drop i old) (sym q)
-
--- the used part
-pub used : (xs old : List ℕ) → take (length xs) (begun xs old) ≡ xs
-unfolding begun
-used xs old = take-append-seam xs (drop (length xs) old)
-
--- more put after the used part is used
-pub put-begun : (xs ys old : List ℕ) → put (length xs) ys (begun xs old) ≡ begun (xs ++ ys) old
-unfolding begun
-put-begun xs ys old =
-    ap₂ (λ (s t : List ℕ). s ++ (ys ++ t)) (used xs old) (drop-begun (length xs + length ys) xs old (omega arith))
-    ∙ ap (λ (i : ℕ). xs ++ (ys ++ drop i old)) (sym (length-append xs ys)) ∙ sym (append-assoc xs ys (drop (length (xs ++ ys)) old))
-
--- zeros put from the used part to the stated size: the area is filled
-pub begun-filled : (size : ℕ) (xs old : List ℕ) → length xs ≤ size
-    → take (length xs) (begun xs old) ++ (replicate (size - length xs) 0 ++ drop size (begun xs old)) ≡ filled size xs old
-unfolding filled
-begun-filled size xs old h =
-    ap₂ (λ (s t : List ℕ). s ++ (replicate (size - length xs) 0 ++ t)) (used xs old) (drop-begun size xs old h)

@@ -3,34 +3,31 @@
 -- Assumes nothing.
 use mathlib.Core.Path.{_≡_, refl, sym, ap, ap₂, _∙_}
 use mathlib.Core.Bool.{Bool, true, false, not, _&&_, _||_}
-use mathlib.Core.List.{List, [], _∷_, _++_, append-assoc, append-nil, map}
+use mathlib.Core.List.{List, [], _∷_, map}
 use Prim.Native.Nat.{ℕ, zero, suc, _+_, _-_, _*_, _≤_, _<_}
 use native.Mathlib.Omega.{arith}
 use lib.Dec.{eqb, leb, ltb}
-use lib.ListN.{length, take, drop, replicate, length-take, take-append-drop}
-use lib.Seq.{getD-take, take-take, slice-empty}
+use lib.ListN.{length, take, drop, length-take}
+use lib.Seq.{getD-take}
 use borrow.Author.Tests.{ltb-true, lt-ltb, leb-true}
 use Rattle.limits.specs.Book.{textBytes, names, nameBytes, rules, bodyWords, nameArea, bodyArea}
 use Rattle.sets.specs.Set.{pick, every}
 use Rattle.sets.proofs.Logic.{either, iff, and-left, and-right, pick-true, pick-false}
 use Rattle.sets.proofs.Tests.{every-same}
-use Rattle.words.specs.Row.{row, part}
+use Rattle.areas.specs.Area.{part, filled}
+use Rattle.areas.proofs.First.{both-parts, part-first, filled-first}
+use Rattle.words.specs.Row.{row}
 use Rattle.program.specs.Program.{Rule}
 use Rattle.grammar.specs.Bytes.{Bytes, allOf}
 use Rattle.grammar.specs.Lines.{run}
 use Rattle.tables.specs.Numbering.{sameBytes, namesOf, numbered}
 use Rattle.tables.specs.Reading.{Reading, read, refused, reading}
-use Rattle.tables.specs.Areas.{Areas, filled, nameRows, headRows, bodyRows, filledWith, tablesOf, short, refusal, outcome, readCall}
+use Rattle.tables.specs.Areas.{Areas, nameRows, headRows, bodyRows, filledWith, tablesOf, short, refusal, outcome, readCall}
 use Rattle.tables.specs.Areas.{RuleTables, rulesOf, nonzero, nameAt, namesFrom, namesIn, ruleAt, rulesFrom, rulesIn}
-use Rattle.tables.specs.Begun.{begun}
 use Rattle.tables.specs.Writing.{written, own, zeroFrom, goodName, different, numbersIn, orderly, metIn, wellFormed, Written, placed, writeCall}
 use Rattle.tables.specs.Sizes.{statedTables, statedRules, tablesWithRest, readWithRest, writtenWithRest, TableSizes}
 
 -- The first entries of an area.
-
--- they and what follows them
-pub both-parts : (size : ℕ) (area : List ℕ) → area ≡ take size area ++ drop size area
-both-parts size area = sym (take-append-drop size area)
 
 -- they are too few where the area is too short
 pub short-first : (size : ℕ) (area : List ℕ) → ltb (length area) size ≡ ltb (length (take size area)) size
@@ -40,35 +37,6 @@ short-first size area =
     lt-ltb (length (take size area)) size (simp length-take (omega arith)))
     (λ e. let l : length (take size area) < size = ltb-true (length (take size area)) size e in
     lt-ltb (length area) size (omega (arith, length-take size area)))
-
--- a part that lies within them
-pub part-first : (at w size : ℕ) (area : List ℕ) → at + w ≤ size → part at w area ≡ part at w (take size area)
-part-first zero w size area h = sym (take-take w size area (omega arith))
-part-first (suc at) w zero area h = absurd (omega arith)
-part-first (suc at) w (suc size) [] h = refl
-part-first (suc at) w (suc size) (x ∷ area) h = part-first at w size area (omega arith)
-
--- an area filled to their end has the rest after it
-pub filled-first : (size : ℕ) (xs old : List ℕ) → filled size xs old ≡ filled size xs (take size old) ++ drop size old
-unfolding filled
-filled-first size xs old =
-    let z : List ℕ = replicate (size - length xs) 0 in
-    sym (ap (λ (t : List ℕ). (xs ++ (z ++ t)) ++ drop size old) (slice-empty size old)
-    ∙ ap (λ (t : List ℕ). (xs ++ t) ++ drop size old) (append-nil z) ∙ append-assoc xs z (drop size old))
-
--- what follows n of them, with the rest after it
-drop-first : (n size : ℕ) (area : List ℕ) → n ≤ size → drop n (take size area) ++ drop size area ≡ drop n area
-drop-first zero size area h = take-append-drop size area
-drop-first (suc n) zero area h = absurd (omega arith)
-drop-first (suc n) (suc size) [] h = refl
-drop-first (suc n) (suc size) (x ∷ area) h = drop-first n size area (omega arith)
-
--- an area begun within them has the rest after it
-pub begun-first : (size : ℕ) (xs old : List ℕ) → length xs ≤ size → begun xs old ≡ begun xs (take size old) ++ drop size old
-unfolding begun
-begun-first size xs old h =
-    ap (λ (t : List ℕ). xs ++ t) (sym (drop-first (length xs) size old h))
-    ∙ sym (append-assoc xs (drop (length xs) (take size old)) (drop size old))
 
 -- a choice has the rest after it where the tests agree and each way out has
 pub pick-first : {A : Type 0} (rest : A → A) {a b : Bool} {x y x′ y′ : A}

@@ -4,10 +4,11 @@ use mathlib.Core.Bool.{Bool, not, _&&_, _||_}
 use mathlib.Core.List.{List, [], _∷_, _++_, map}
 use Prim.Native.Nat.{ℕ, zero, suc, _-_, _*_}
 use lib.Dec.{eqb, leb, ltb}
-use lib.ListN.{length, getD, drop, replicate}
+use lib.ListN.{length, getD, replicate}
 use Rattle.limits.specs.Book.{names, nameBytes, rules, bodyWords, nameArea, bodyArea}
 use Rattle.sets.specs.Set.{pick}
-use Rattle.words.specs.Row.{row, part, pack}
+use Rattle.areas.specs.Area.{part, filled}
+use Rattle.words.specs.Row.{row, pack}
 use Rattle.program.specs.Program.{Rule, Program}
 use Rattle.grammar.specs.Bytes.{Bytes}
 use Rattle.grammar.specs.Grammar.{Clause}
@@ -42,10 +43,6 @@ ruleTables heads bodies = record { heads = heads; bodies = bodies }
 -- the rules' part of the areas
 abbrev pub rulesOf : Areas → RuleTables
 rulesOf o = record { heads = o .heads; bodies = o .bodies }
-
--- the used part, zeros to the stated size, and what lies past that as it was
-unfoldable pub filled : ℕ → List ℕ → List ℕ → List ℕ
-filled size xs old = xs ++ (replicate (size - length xs) 0 ++ drop size old)
 
 -- a name's row: "each name padded with zeros"
 unfoldable pub padded : Bytes → List ℕ

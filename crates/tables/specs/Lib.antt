@@ -1,7 +1,6 @@
 pub mod Numbering
 pub mod Reading
 pub mod Areas
-pub mod Begun
 pub mod Writing
 pub mod Sizes
 pub mod Claims

@@ -8,13 +8,13 @@ use lib.Dec.{eqb, leb, ltb}
 use lib.ListN.{length, getD, drop}
 use Rattle.limits.specs.Book.{textBytes, names, nameBytes, rules, bodyWords, nameArea, bodyArea}
 use Rattle.sets.specs.Set.{pick, every, members}
-use Rattle.words.specs.Row.{part}
+use Rattle.areas.specs.Area.{part, filled}
 use Rattle.program.specs.Program.{Rule}
 use Rattle.grammar.specs.Bytes.{Bytes, colon, space, allOf}
 use Rattle.grammar.specs.Grammar.{Clause, mark, joined}
 use Rattle.tables.specs.Numbering.{sameBytes, namesOf}
 use Rattle.tables.specs.Reading.{Book}
-use Rattle.tables.specs.Areas.{Areas, rulesOf, short, filled, tablesOf, nonzero, nameAt, namesIn, rulesIn}
+use Rattle.tables.specs.Areas.{Areas, rulesOf, short, tablesOf, nonzero, nameAt, namesIn, rulesIn}
 
 -- the names, each after a space
 unfoldable pub spacedOn : List Bytes → Bytes

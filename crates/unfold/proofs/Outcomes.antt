@@ -10,7 +10,7 @@ use lib.ListN.{length}
 use borrow.Author.Tests.{lt-ltb, le-ltb, not-true, not-false}
 use Rattle.limits.specs.Book.{folds, rowArea}
 use Rattle.sets.proofs.Logic.{or-left, or-right}
-use Rattle.tables.specs.Areas.{filled}
+use Rattle.areas.specs.Area.{filled}
 use Rattle.systems.specs.Fold.{shortRows, formedAll, foldRefusal, foldedArea, foldCall}
 use Rattle.systems.proofs.Folds.{fold-short, fold-over, fold-ill, fold-good}
 

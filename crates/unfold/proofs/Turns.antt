@@ -10,18 +10,16 @@ use lib.ListN.{length, take, drop, replicate, length-replicate}
 use Rattle.limits.specs.Book.{wordBits, rowWords}
 use Rattle.sets.specs.Set.{Set}
 use Rattle.sets.proofs.Logic.{iff}
-use Rattle.words.specs.Row.{part, put}
-use Rattle.rows.specs.Clear.{cleared, Clear}
+use Rattle.areas.specs.Area.{part, put, begun, filled, cleared, Clear}
 use Rattle.rows.proofs.Reading.{Known, in-range}
 use Rattle.program.specs.System.{unfoldOnce, rowsAfter}
-use Rattle.tables.specs.Areas.{filled}
-use Rattle.tables.specs.Begun.{begun}
-use Rattle.tables.proofs.Encoding.{drop-begun, used}
+use Rattle.areas.proofs.Begun.{drop-begun, used, begun-begun, put-front, zeros-front}
+use Rattle.areas.proofs.Filled.{front-cleared, filled-zeros}
 use Rattle.systems.specs.Rows.{rowIn, packed, formedRows}
 use Rattle.systems.specs.Fold.{foldedArea}
-use Rattle.systems.proofs.Packed.{length-packed, packed-same, row-begun, begun-rows, begun-begun, put-front, zeros-front}
-use Rattle.systems.proofs.Clearing.{tail-cleared, tail-clear, front-cleared, filled-zeros}
-use Rattle.systems.proofs.Formed.{formed-at, unfold-find, unfold-make, unfolded-in}
+use Rattle.systems.proofs.Packed.{length-packed, packed-same, row-begun, begun-rows}
+use Rattle.systems.proofs.Clearing.{tail-cleared, tail-clear}
+use Rattle.systems.proofs.Formed.{formed-at, unfold-find, unfold-make, after-in}
 
 -- what lies past the rows put in is as it was
 pub rows-past : (w : ℕ) (rows : ℕ → Set) (old to : List ℕ) (m : ℕ) → to ≡ begun (packed w m rows) old → drop (m * w) to ≡ drop (m * w) old
@@ -56,7 +54,7 @@ module _ (w n m : ℕ) (all : List ℕ) (l : m ≤ n) (b : n ≤ w * wordBits) (
       let q = unfold-find n new i a e in
       let j : ℕ = q .0 in
       let t : after d i j ≡ true = sym (same i j li (le-trans (q .1) b)) ∙ q .2 in
-      let lj : j < m = unfolded-in d n m (rowIn w all) l (formed-at w n m all h) i j (le-trans li l) t .1 in
+      let lj : j < m = after-in d n m (rowIn w all) l (formed-at w n m all h) i j (le-trans li l) t .1 in
       unfold-make m (after d) i j a lj t (sym (same j a lj la) ∙ q .3))
       (λ e.
       let q = unfold-find m (after d) i a e in

@@ -14,10 +14,11 @@ use Rattle.sets.specs.Set.{Set, exists, emptySet, union}
 use Rattle.sets.proofs.Logic.{clash, not-true, and-left}
 use Rattle.sets.proofs.Tests.{exists-find, exists-same, exists-one}
 use Rattle.sets.proofs.Ranges.{exists-add}
-use Rattle.words.specs.Row.{bit, row, part, pack, put}
+use Rattle.areas.specs.Area.{part, put}
+use Rattle.words.specs.Row.{bit, row, pack}
 use Rattle.words.proofs.Bits.{bit-zero, bit-lowest, trailing-lt}
 use Rattle.words.proofs.Rows.{row-word, row-pack, length-pack, pack-same, pack-row, pack-empty}
-use Rattle.words.proofs.Areas.{part-whole, put-whole}
+use Rattle.areas.proofs.Parts.{part-whole, put-whole}
 use Rattle.rows.proofs.Reading.{Known, in-range, word-of}
 use Rattle.program.specs.System.{unfoldOnce}
 use Rattle.systems.specs.Rows.{rowIn}

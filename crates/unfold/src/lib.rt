@@ -12,11 +12,9 @@ ghost use Prim.Native.Nat.{_+_, _*_, _<_, _≤_};
 ghost use lib.ListN.{length};
 ghost use Rattle.limits.specs.Book.{atoms, folds, wordBits, rowWords, rowArea};
 ghost use Rattle.sets.specs.Set.{exists, union};
-ghost use Rattle.rows.specs.Clear.{Clear};
-ghost use Rattle.words.specs.Row.{bit, row, pack, put};
+ghost use Rattle.areas.specs.Area.{put, begun, filled, Clear};
+ghost use Rattle.words.specs.Row.{bit, row, pack};
 ghost use Rattle.program.specs.System.{unfoldOnce};
-ghost use Rattle.tables.specs.Areas.{filled};
-ghost use Rattle.tables.specs.Begun.{begun};
 ghost use Rattle.systems.specs.Rows.{rowIn, packed, formedRows};
 ghost use Rattle.systems.specs.Fold.{foldedArea, foldCall};
 

@@ -11,7 +11,8 @@ use borrow.Author.Tests.{ne-eqb, lt-leb}
 use Rattle.limits.specs.Book.{names, wordBits, bodyWords}
 use Rattle.sets.specs.Set.{count}
 use Rattle.sets.proofs.Counting.{count-none, count-same, count-tail}
-use Rattle.words.specs.Row.{row, part, pack}
+use Rattle.areas.specs.Area.{part}
+use Rattle.words.specs.Row.{row, pack}
 use Rattle.program.specs.Program.{Program, headAt}
 use Rattle.program.specs.System as System
 use Rattle.program.specs.Standard as Standard

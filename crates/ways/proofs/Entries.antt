@@ -11,7 +11,8 @@ use Rattle.limits.specs.Book.{names, rules, wordBits, bodyWords}
 use Rattle.sets.specs.Set.{every, exists, within, next}
 use Rattle.sets.proofs.Every.{every-off, every-end}
 use Rattle.sets.proofs.Walk.{next-within}
-use Rattle.words.specs.Row.{row, part}
+use Rattle.areas.specs.Area.{part}
+use Rattle.words.specs.Row.{row}
 use Rattle.tables.specs.Areas.{RuleTables, Counts}
 use Rattle.systems.specs.Rows.{rowIn}
 use Rattle.systems.specs.Standardise.{formedEntry, formedTables}

@@ -14,10 +14,11 @@ use Rattle.limits.specs.Book.{names, wordBits, bodyWords}
 use Rattle.sets.specs.Set.{Set, Same, pick, only, union, count}
 use Rattle.sets.proofs.Logic.{either, or-right, pick-true, pick-false}
 use Rattle.sets.proofs.Counting.{count-in, count-out}
-use Rattle.words.specs.Row.{row, part, pack, put}
+use Rattle.areas.specs.Area.{part, put, begun}
+use Rattle.words.specs.Row.{row, pack}
 use Rattle.words.proofs.Rows.{length-pack, pack-same, pack-empty}
-use Rattle.tables.specs.Begun.{begun}
-use Rattle.systems.proofs.Packed.{put-front, begun-whole, set-row, set-joined}
+use Rattle.areas.proofs.Begun.{put-front, begun-whole}
+use Rattle.systems.proofs.Packed.{set-row, set-joined}
 use Rattle.ways.specs.Ways.{metNames, severalNames}
 
 -- a packed set that is a whole area is at its front

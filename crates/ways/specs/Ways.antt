@@ -7,7 +7,8 @@ use lib.Dec.{eqb, leb}
 use lib.ListN.{getD}
 use Rattle.limits.specs.Book.{bodyWords}
 use Rattle.sets.specs.Set.{Set, only, union, count}
-use Rattle.words.specs.Row.{row, part, pack, put}
+use Rattle.areas.specs.Area.{part, put}
+use Rattle.words.specs.Row.{row, pack}
 
 -- the names that are the head of one or more of the first m rules
 unfoldable pub metNames : List ℕ → ℕ → Set

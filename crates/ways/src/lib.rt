@@ -5,7 +5,8 @@ ghost use Prim.Native.Nat.{ℕ, _<_, _≤_};
 ghost use lib.ListN.{length, getD};
 ghost use Rattle.limits.specs.Book.{names, rules, bodyWords, bodyArea};
 ghost use Rattle.sets.specs.Set.{pick, count};
-ghost use Rattle.words.specs.Row.{row, part, pack};
+ghost use Rattle.areas.specs.Area.{part};
+ghost use Rattle.words.specs.Row.{row, pack};
 ghost use Rattle.systems.specs.Standardise.{formedEntry, formedTables};
 ghost use Rattle.ways.specs.Ways.{withName, severalNames};
 

@@ -15,7 +15,8 @@ use lib.ListN.{length, getD, drop, replicate, List·getD-eq-default}
 use lib.Seq.{getD-take, getD-drop}
 use Rattle.sets.specs.Set.{Set, Same, one, exists, count, within, meets, same, emptySet, union}
 use Rattle.limits.specs.Book.{wordBits}
-use Rattle.words.specs.Row.{bit, row, Words, binary, pack, part}
+use Rattle.areas.specs.Area.{part}
+use Rattle.words.specs.Row.{bit, row, Words, binary, pack}
 use Rattle.sets.proofs.Logic.{either}
 use Rattle.sets.proofs.Tests.{exists-same, within-same, meets-same, same-same}
 use Rattle.sets.proofs.Counting.{count-same}

@@ -1,9 +1,9 @@
 -- A row is a run of 64-bit words, read as a set: atom a is bit a mod 64 (lowest is 0) of word a div 64.
 -- Assumes nothing.
-use mathlib.Core.List.{List, [], _∷_, _++_}
+use mathlib.Core.List.{List, [], _∷_}
 use Prim.Native.Nat.{ℕ, zero, suc, _+_, _*_, _/_, _%_, _^_, _<_}
 use lib.Dec.{eqb}
-use lib.ListN.{length, getD, take, drop}
+use lib.ListN.{getD}
 use Rattle.sets.specs.Set.{Set, one}
 use Rattle.limits.specs.Book.{wordBits}
 
@@ -28,11 +28,3 @@ binary (suc k) f = one (f k) * 2 ^ k + binary k f
 unfoldable pub pack : ℕ → Set → List ℕ
 pack zero f = []
 pack (suc w) f = binary wordBits f ∷ pack w (λ a. f (wordBits + a))
-
--- the w words from place `at` of an area
-abbrev pub part : ℕ → ℕ → List ℕ → List ℕ
-part at w area = take w (drop at area)
-
--- the area with ys from place `at` on
-abbrev pub put : ℕ → List ℕ → List ℕ → List ℕ
-put at ys area = take at area ++ (ys ++ drop (at + length ys) area)

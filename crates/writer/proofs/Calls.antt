@@ -9,12 +9,12 @@ use lib.ListN.{length}
 use borrow.Author.Tests.{ltb-false, lt-ltb, le-ltb, not-true, not-false}
 use Rattle.limits.specs.Book.{textBytes, names, nameArea, rules, bodyArea}
 use Rattle.sets.proofs.Logic.{or-left, or-right, or-none, pick-true, pick-false}
-use Rattle.rows.specs.Clear.{cleared}
 use Rattle.grammar.specs.Bytes.{Bytes}
 use Rattle.tables.specs.Areas.{Areas, rulesOf, short, namesIn, rulesIn}
-use Rattle.tables.specs.Begun.{begun}
+use Rattle.areas.specs.Area.{begun, cleared}
 use Rattle.tables.specs.Writing.{written, wellFormed, placed, writeCall}
-use Rattle.tables.proofs.Encoding.{length-begun, begun-filled}
+use Rattle.areas.proofs.Begun.{length-begun}
+use Rattle.areas.proofs.Filled.{begun-filled}
 use Rattle.tablecheck.proofs.Formed.{few}
 use Rattle.writer.specs.Short.{shortWrite}
 

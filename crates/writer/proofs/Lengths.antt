@@ -7,7 +7,8 @@ use native.Mathlib.Omega.{arith}
 use lib.ListN.{length, getD, length-append}
 use Rattle.limits.specs.Book.{names, nameBytes, bodyWords}
 use Rattle.sets.specs.Set.{next}
-use Rattle.words.specs.Row.{row, part}
+use Rattle.areas.specs.Area.{part}
+use Rattle.words.specs.Row.{row}
 use Rattle.grammar.specs.Bytes.{Bytes, colon, lineEnd}
 use Rattle.grammar.specs.Grammar.{mark, joined}
 use Rattle.tables.specs.Areas.{RuleTables, ruleTables, nameAt, namesIn, ruleAt, rulesIn}

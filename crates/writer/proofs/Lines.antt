@@ -8,7 +8,8 @@ use native.Mathlib.Omega.{arith}
 use lib.ListN.{length, getD, List·getD-eq-default}
 use Rattle.limits.specs.Book.{names, nameBytes, bodyWords}
 use Rattle.sets.specs.Set.{next, members}
-use Rattle.words.specs.Row.{row, part}
+use Rattle.areas.specs.Area.{part}
+use Rattle.words.specs.Row.{row}
 use Rattle.grammar.specs.Bytes.{Bytes, colon, space, lineEnd}
 use Rattle.grammar.specs.Grammar.{mark, joined}
 use Rattle.tables.specs.Areas.{RuleTables, ruleTables, nameAt, namesIn, ruleAt, rulesFrom, rulesIn}

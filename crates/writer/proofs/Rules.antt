@@ -7,12 +7,12 @@ use native.Mathlib.Omega.{arith}
 use lib.ListN.{length, getD, drop, set, length-append}
 use Rattle.limits.specs.Book.{names, nameBytes, nameArea, bodyWords}
 use Rattle.sets.specs.Set.{next}
-use Rattle.words.specs.Row.{row, part, put}
-use Rattle.words.proofs.Areas.{length-put}
+use Rattle.areas.specs.Area.{part, put, begun}
+use Rattle.words.specs.Row.{row}
+use Rattle.areas.proofs.Parts.{length-put}
 use Rattle.grammar.specs.Bytes.{Bytes, colon, space, lineEnd}
 use Rattle.grammar.specs.Grammar.{mark, joined}
 use Rattle.tables.specs.Areas.{RuleTables, ruleTables, nameAt, namesIn, ruleAt, rulesIn}
-use Rattle.tables.specs.Begun.{begun}
 use Rattle.tables.specs.Writing.{ruleText, written}
 use Rattle.tables.proofs.Encoding.{name-fits}
 use Rattle.writer.specs.Spelt.{nameSpelt, restOf}

@@ -5,7 +5,8 @@ use Prim.Native.Nat.{ℕ, _+_, _-_, _*_}
 use lib.ListN.{getD}
 use Rattle.limits.specs.Book.{names, nameBytes, bodyWords}
 use Rattle.sets.specs.Set.{members}
-use Rattle.words.specs.Row.{row, part}
+use Rattle.areas.specs.Area.{part}
+use Rattle.words.specs.Row.{row}
 use Rattle.grammar.specs.Bytes.{Bytes}
 use Rattle.grammar.specs.Grammar.{joined}
 use Rattle.tables.specs.Areas.{ruleTables, namesIn, ruleAt, rulesIn}

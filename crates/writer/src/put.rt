@@ -6,8 +6,7 @@ ghost use mathlib.Core.Path.{_≡_};
 ghost use Prim.Native.Nat.{_+_, _<_, _≤_};
 ghost use lib.ListN.{length};
 ghost use Rattle.limits.specs.Book.{names, nameArea, rules, bodyWords, bodyArea};
-ghost use Rattle.words.specs.Row.{put};
-ghost use Rattle.tables.specs.Begun.{begun};
+ghost use Rattle.areas.specs.Area.{put, begun};
 ghost use Rattle.writer.specs.Spelt.{nameSpelt, restOf, lineOf, ruleLines, textIn};
 
 // Name a of the first n, nothing where a is not below n.

@@ -2,7 +2,7 @@
 use mathlib.Core.Path.{_≡_}
 use Prim.Native.Nat.{_-_, _≤_}
 use lib.ListN.{length}
-use Rattle.words.specs.Row.{part, put}
+use Rattle.areas.specs.Area.{part, put}
 use Rattle.copying.proofs.Putting.{copy-start, copy-more, copy-done}
 use borrow.Author.Needs.{needs}
 use Rattle.copying.proofs.copy.Statement.{statement}

@@ -1,6 +1,6 @@
 -- `hosted::list` meets its contract: what is seen of the solver's outcome. Assumes nothing.
 use Rattle.limits.specs.Book.{rowArea}
-use Rattle.rows.proofs.Zeros.{zeros-clear}
+use Rattle.areas.proofs.Filled.{zeros-clear}
 use Rattle.grammar.specs.Bytes.{ourLetters}
 use Rattle.hosting.proofs.Calls.{list-seen}
 use borrow.Author.Needs.{needs}

@@ -5,7 +5,7 @@ use Prim.Native.Nat.{_-_, _≤_}
 use lib.ListN.{length}
 use Rattle.limits.specs.Book.{rowWords}
 use Rattle.sets.specs.Set.{only}
-use Rattle.tables.specs.Begun.{begun}
+use Rattle.areas.specs.Area.{begun}
 use Rattle.systems.specs.Rows.{packed}
 use Rattle.systems.proofs.Packed.{packed-none, rows-all}
 use Rattle.placing.proofs.Overwriting.{alone-next}

@@ -3,7 +3,7 @@ use mathlib.Core.Path.{ap, _∙_}
 use Prim.Native.Nat.{ℕ}
 use borrow.Author.Needs.{needs}
 use Rattle.limits.specs.Book.{nameArea, bodyArea}
-use Rattle.rows.specs.Clear.{cleared}
+use Rattle.areas.specs.Area.{cleared}
 use Rattle.reader.proofs.settle.Statement.{statement}
 use Rattle.reader.proofs.settle.Tie as tie
 

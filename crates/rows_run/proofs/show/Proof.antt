@@ -1,7 +1,8 @@
 -- `rows_run::show` meets its contract. The loop's invariant: the walk has not passed the end. Assumes nothing.
 use native.Mathlib.Omega.{arith}
 use Rattle.sets.proofs.Walk.{walk-range}
-use Rattle.words.specs.Row.{row, part}
+use Rattle.areas.specs.Area.{part}
+use Rattle.words.specs.Row.{row}
 use Prim.Native.Nat.{_≤_, _+_, _-_, _*_}
 use mathlib.Core.Path.{_≡_}
 use Rattle.limits.specs.Book.{wordBits}

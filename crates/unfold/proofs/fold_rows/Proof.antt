@@ -4,7 +4,7 @@ use Prim.Native.Nat.{_-_, _≤_}
 use lib.ListN.{length}
 use Rattle.limits.specs.Book.{atoms, rowWords}
 use Rattle.program.specs.System.{unfoldOnce}
-use Rattle.tables.specs.Begun.{begun}
+use Rattle.areas.specs.Area.{begun}
 use Rattle.systems.specs.Rows.{rowIn, packed}
 use Rattle.systems.proofs.Packed.{packed-none, rows-next, rows-all}
 use borrow.Author.Needs.{needs}

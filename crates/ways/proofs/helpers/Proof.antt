@@ -6,7 +6,8 @@ use Prim.Native.Nat.{_-_, _≤_}
 use lib.ListN.{getD}
 use Rattle.limits.specs.Book.{bodyWords}
 use Rattle.sets.specs.Set.{count}
-use Rattle.words.specs.Row.{row, part}
+use Rattle.areas.specs.Area.{part}
+use Rattle.words.specs.Row.{row}
 use Rattle.ways.proofs.Names.{counted-none, counted-in, counted-out, counted-end}
 use borrow.Author.Needs.{needs}
 use Rattle.ways.proofs.helpers.Statement.{statement}

@@ -8,7 +8,7 @@ use lib.ListN.{drop}
 use borrow.Author.Needs.{needs}
 use borrow.Author.Tests.{leb-true}
 use Rattle.limits.specs.Book.{nameBytes}
-use Rattle.words.specs.Row.{part}
+use Rattle.areas.specs.Area.{part}
 use Rattle.grammar.specs.Lines.{span}
 use Rattle.tables.specs.Areas.{nonzero}
 use Rattle.lexicon.proofs.LookUp.{Known, walk-on, walk-stop, walk-end, hands, lies}

@@ -3,7 +3,8 @@ use native.Mathlib.Omega.{arith}
 use Prim.Native.Nat.{_*_}
 use Rattle.limits.specs.Book.{wordBits}
 use Rattle.sets.proofs.Counting.{count-le}
-use Rattle.words.specs.Row.{row, part}
+use Rattle.areas.specs.Area.{part}
+use Rattle.words.specs.Row.{row}
 use Rattle.listing.proofs.Held.{divides, low-le, count-held}
 use borrow.Author.Needs.{needs}
 use Rattle.listing.proofs.names.count_held.Statement.{statement}

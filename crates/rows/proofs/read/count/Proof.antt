@@ -4,7 +4,8 @@ use Prim.Native.Nat.{_+_, _*_, _-_, _≤_}
 use mathlib.Core.Path.{_≡_, refl, sym}
 use Rattle.limits.specs.Book.{wordBits}
 use Rattle.sets.specs.Set as Set
-use Rattle.words.specs.Row.{row, part}
+use Rattle.areas.specs.Area.{part}
+use Rattle.words.specs.Row.{row}
 use borrow.Author.Needs.{needs}
 use Rattle.rows.proofs.read.count.Statement.{statement}
 use Rattle.rows.proofs.read.count.Tie as tie

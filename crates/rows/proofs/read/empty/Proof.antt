@@ -7,7 +7,8 @@ use mathlib.Core.Bool.{not, Bool·not-not}
 use lib.Dec.{eqb}
 use Rattle.limits.specs.Book.{wordBits}
 use Rattle.sets.specs.Set as Set
-use Rattle.words.specs.Row.{row, part}
+use Rattle.areas.specs.Area.{part}
+use Rattle.words.specs.Row.{row}
 use borrow.Author.Needs.{needs}
 use Rattle.rows.proofs.read.empty.Statement.{statement}
 use Rattle.rows.proofs.read.empty.Tie as tie

@@ -5,7 +5,8 @@ use mathlib.Core.Path.{_≡_}
 use mathlib.Core.Bool.{true}
 use Rattle.limits.specs.Book.{wordBits}
 use Rattle.sets.specs.Set as Set
-use Rattle.words.specs.Row.{row, part}
+use Rattle.areas.specs.Area.{part}
+use Rattle.words.specs.Row.{row}
 use borrow.Author.Needs.{needs}
 use Rattle.rows.proofs.read.equal.Statement.{statement}
 use Rattle.rows.proofs.read.equal.Tie as tie

@@ -6,7 +6,8 @@ use mathlib.Core.Path.{_≡_, sym}
 use lib.Dec.{eqb}
 use Rattle.limits.specs.Book.{wordBits}
 use Rattle.sets.specs.Set as Set
-use Rattle.words.specs.Row.{row, part}
+use Rattle.areas.specs.Area.{part}
+use Rattle.words.specs.Row.{row}
 use borrow.Author.Needs.{needs}
 use Rattle.rows.proofs.read.within.Statement.{statement}
 use Rattle.rows.proofs.read.within.Tie as tie

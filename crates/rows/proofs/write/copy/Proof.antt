@@ -4,7 +4,7 @@ use Prim.Native.Nat.{_-_, _≤_}
 use native.Mathlib.Omega.{arith}
 use mathlib.Core.Path.{_≡_}
 use lib.ListN.{length}
-use Rattle.words.specs.Row.{part, put}
+use Rattle.areas.specs.Area.{part, put}
 use borrow.Author.Needs.{needs}
 use Rattle.rows.proofs.write.copy.Statement.{statement}
 use Rattle.rows.proofs.write.copy.Tie as tie

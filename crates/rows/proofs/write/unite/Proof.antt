@@ -4,7 +4,8 @@ use Prim.Native.Nat.{_-_, _≤_}
 use mathlib.Core.Path.{_≡_}
 use lib.ListN.{length}
 use Rattle.sets.specs.Set.{union}
-use Rattle.words.specs.Row.{row, part, pack, put}
+use Rattle.areas.specs.Area.{part, put}
+use Rattle.words.specs.Row.{row, pack}
 use borrow.Author.Needs.{needs}
 use Rattle.rows.proofs.write.unite.Statement.{statement}
 use Rattle.rows.proofs.write.unite.Tie as tie

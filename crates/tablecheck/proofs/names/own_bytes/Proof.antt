@@ -1,7 +1,7 @@
 -- `tablecheck::names::own_bytes` meets its contract. The loop's invariant: the rest decides. Assumes nothing.
 use mathlib.Core.Path.{_≡_, refl, _∙_}
 use Prim.Native.Nat.{_-_}
-use Rattle.words.specs.Row.{part}
+use Rattle.areas.specs.Area.{part}
 use Rattle.grammar.specs.Bytes.{letters, allOf}
 use Rattle.tables.specs.Writing.{own}
 use Rattle.tablecheck.proofs.Places.{all-on, all-off, all-end}

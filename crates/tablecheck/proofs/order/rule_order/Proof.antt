@@ -4,7 +4,8 @@ use mathlib.Core.Path.{_≡_, _∙_}
 use Prim.Native.Nat.{_+_, _-_, _*_, _≤_}
 use Rattle.limits.specs.Book.{names, bodyWords}
 use Rattle.sets.proofs.Walk.{walk-range}
-use Rattle.words.specs.Row.{row, part}
+use Rattle.areas.specs.Area.{part}
+use Rattle.words.specs.Row.{row}
 use Rattle.tables.specs.Areas.{ruleTables, ruleAt}
 use Rattle.tables.specs.Writing.{numbersOf}
 use Rattle.tablecheck.specs.Order.{headEnd, counted}

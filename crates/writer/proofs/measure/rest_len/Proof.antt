@@ -5,7 +5,8 @@ use Prim.Native.Nat.{_+_, _-_, _*_, _≤_}
 use lib.ListN.{length}
 use Rattle.limits.specs.Book.{names, nameBytes, bodyWords}
 use Rattle.sets.proofs.Walk.{walk-range}
-use Rattle.words.specs.Row.{row, part}
+use Rattle.areas.specs.Area.{part}
+use Rattle.words.specs.Row.{row}
 use Rattle.writer.specs.Spelt.{restOf}
 use Rattle.writer.proofs.Lines.{after}
 use Rattle.writer.proofs.Lengths.{rest-start, rest-on, rest-end}

@@ -5,6 +5,7 @@ use Prim.Native.Nat.{_+_, _-_, _≤_}
 use lib.ListN.{length}
 use Rattle.limits.specs.Book.{names, bodyWords}
 use Rattle.sets.proofs.Walk.{walk-range}
+use Rattle.areas.specs.Area.{part}
 use Rattle.words.specs.Row as Row
 use Rattle.writer.specs.Spelt.{restOf}
 use Rattle.writer.proofs.Lines.{after}
@@ -24,7 +25,7 @@ abbrev μ-loop : tie.MeasureT-loop
 loop-holds : tie.Need-loop-holds Inv-loop μ-loop
 loop-holds c =
     let a = c .before .before .before .before .args in (
-      walk-range names (a .from) (c .next .result) (Row.row (Row.part (a .row) bodyWords (a .bodies .now))) (omega arith) (c .next .ensures) .1,
+      walk-range names (a .from) (c .next .result) (Row.row (part (a .row) bodyWords (a .bodies .now))) (omega arith) (c .next .ensures) .1,
       search needs,
       rest-start (a .spellings .now) (a .n) (a .bodies .now) (a .row) (a .from) (a .text .now) (a .at)
           (c .before .before .before .before .pre .1) _ (omega arith) (c .next .ensures),
@@ -59,7 +60,7 @@ loop-less : tie.Need-loop-less Inv-loop μ-loop
 loop-less c =
     let a = c .before .before .before .before .before .before .before .before .before .before .before .args in
     let w = walk-range names (c .before .before .before .before .before .before .loop .a + 1) (c .next2 .result)
-    (Row.row (Row.part (a .row) bodyWords (a .bodies .now))) (omega arith) (c .next2 .ensures) in
+    (Row.row (part (a .row) bodyWords (a .bodies .now))) (omega arith) (c .next2 .ensures) in
     omega (arith, w .0, w .1)
 
 loop-again : tie.Need-loop-again Inv-loop μ-loop
@@ -67,7 +68,7 @@ loop-again c =
     let a = c .before .before .before .before .before .before .before .before .before .before .before .args in
     let p = c .before .before .before .before .before .before .before .before .before .before .before .pre in
     let l = c .before .before .before .before .before .before .loop in
-    let w = walk-range names (l .a + 1) (c .next2 .result) (Row.row (Row.part (a .row) bodyWords (a .bodies .now))) (omega arith) (c .next2 .ensures)
+    let w = walk-range names (l .a + 1) (c .next2 .result) (Row.row (part (a .row) bodyWords (a .bodies .now))) (omega arith) (c .next2 .ensures)
     in
     let on = rest-on (a .spellings .now) (a .n) (a .bodies .now) (a .row) (a .from) (a .text .now) (a .at) (p .1) _ _ _ (l .inv .2)
     (c .before .before .before .before .before .loop-test .taken) _ _ _ (c .next2 .ensures) (c .before .before .before .put-name .ensures .1)

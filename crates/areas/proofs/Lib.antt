@@ -1,0 +1,4 @@
+pub mod Parts
+pub mod Begun
+pub mod Filled
+pub mod First
