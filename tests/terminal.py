@@ -3,11 +3,13 @@
 # signal ended it, 128 and the signal's number.
 import os
 import pty
+import signal
 import sys
 
 seen, command = sys.argv[1].encode(), sys.argv[2:]
 child, terminal = pty.fork()
 if child == 0:
+    signal.signal(signal.SIGINT, signal.SIG_DFL)  # it may be ignored here, as in whatever a script starts behind it
     os.execvp(command[0], command)
 shown = b""
 while True:
