@@ -87,12 +87,13 @@ def printed_listing(folds):
 
 
 def for_bash():
-    """assignments that a script evaluates: each limit, each refusal as REFUSED_.., its words as WORDS_.. with its number,
-    the printed book and its listing with \\n for line ends"""
+    """assignments that a script evaluates: each limit, each refusal as REFUSED_.., its words as WORDS_.. with its
+    number, the printed book and its listing with \\n for line ends"""
     limits = {name: value for name, value in globals().items() if name.isupper() and isinstance(value, int)}
     refusals = {"REFUSED_" + name: value for name, value in vars(Refusal).items() if name.isupper()}
     words = {"NO_WORDS": NO_WORDS, **{"WORDS_%d" % number: text for number, text in WORDS.items()}}
-    texts = {**words, "PRINTED": MARK.decode() + Printed.RULES.replace("/", "\n") + "\n", "PRINTED_LISTING": printed_listing(FOLDS)}
+    printed = MARK.decode() + Printed.RULES.replace("/", "\n") + "\n"
+    texts = {**words, "PRINTED": printed, "PRINTED_LISTING": printed_listing(FOLDS)}
     quoted = {name: "'%s'" % text.replace("\n", "\\n") for name, text in texts.items()}
     return "".join("%s=%s\n" % entry for entry in {**limits, **refusals, **quoted}.items())
 
