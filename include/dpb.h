@@ -4,7 +4,11 @@
  * One call reads a rule book and lists the names that hold: those in every
  * model of the book. docs/FORMAT.md says how a book is written.
  *
- * To link:  rt staticlib dpb && cc -Iinclude host.c target/staticlib/libdpb.a
+ * It asks for C99 or later, or C++11 or later; for C++98 too, where the
+ * compiler has <stdint.h>, as GCC does.
+ *
+ * To link, once installed:  cc host.c $(pkg-config --cflags --libs dpb)
+ * from a checkout:  rt staticlib dpb && cc -Iinclude host.c target/staticlib/libdpb.a
  */
 #ifndef DPB_H
 #define DPB_H
@@ -15,6 +19,12 @@
 #ifdef __cplusplus
 extern "C" {
 #endif
+
+/*
+ * The release of this engine, as CHANGELOG.md counts them. The 0001 in a book's
+ * mark and in a listing's head line is another thing: the version of the form.
+ */
+#define DPB_RELEASE "1.1.0"
 
 /* Limits. At most this many: */
 #define DPB_TEXT_BYTES 16384 /* bytes in a book, its mark line included */
@@ -112,6 +122,95 @@ static inline unsigned dpb_refusal(uint64_t result)
 static inline unsigned dpb_line(uint64_t result)
 {
     return (unsigned)(result & 0xFFFF);
+}
+
+/*
+ * The words of a refusal, by its number: what is wrong, a colon, and what to do
+ * or to look for, without a line end. The command dpl says the same words. It is
+ * never NULL: a number that this header does not know has words that say so.
+ */
+static inline const char *dpb_words(unsigned refusal)
+{
+    switch (refusal) {
+    case DPB_LISTED:
+        return "listed";
+    case DPB_REFUSED_SHORT_AREA:
+        return "the listing area is too short: lend 4,608 bytes or more";
+    case DPB_REFUSED_LONG_TEXT:
+        return "the text has over 16,384 bytes: shorten remarks and blanks, or split the book";
+    case DPB_REFUSED_MARK:
+        return "the first line is not the mark DPB 0001: look for an empty input, a byte order mark before it, "
+               "a carriage return after it, a mark of another version";
+    case DPB_REFUSED_NO_LINE_END:
+        return "the last line has no line end: end it, and look whether the text was cut off";
+    case DPB_REFUSED_LINE:
+        return "not a rule, a remark or an empty line: look for a missing colon, a carriage return, an accent, a comma";
+    case DPB_REFUSED_NAMES:
+        return "this line has the 129th name: look for a name spelt in two ways, or split the book";
+    case DPB_REFUSED_RULES:
+        return "this line is the 257th rule: drop rules given twice, or split the book";
+    case DPB_REFUSED_ATOMS:
+        return "over 256 atoms, which are the names and one more for each rule whose head has several: "
+               "give fewer names several rules";
+    case DPB_REFUSED_FOLDS:
+        return "over 8 folds: ask for 0 to 8";
+    default:
+        return "refused, under a number that this release has no words for";
+    }
+}
+
+/*
+ * A walk over the names of a listing, after a call that returned 0:
+ *
+ *     const char *name;
+ *
+ *     for (name = dpb_first_name(listing); name; name = dpb_next_name(name))
+ *         printf("%.*s\n", (int)dpb_name_length(name), name);
+ *
+ * A name is a part of the listing area itself: it ends at its line's end and
+ * not in a zero, and is there as long as the area is. After a refusal the area
+ * is no listing, and none of these may be asked.
+ */
+
+/* What stands after the line that begins here: a name, or NULL at the listing's end. */
+static inline const char *dpb_next_name(const char *name)
+{
+    while (*name != '\n')
+        name++;
+    name++;
+    return *name ? name : NULL;
+}
+
+/* The first name of a listing, NULL where no name is held: it stands after the head line. */
+static inline const char *dpb_first_name(const uint8_t *listing)
+{
+    return dpb_next_name((const char *)listing);
+}
+
+/* The bytes of such a name, 1 to 32. */
+static inline size_t dpb_name_length(const char *name)
+{
+    size_t len = 0;
+
+    while (name[len] != '\n')
+        len++;
+    return len;
+}
+
+/* 1 where a listing has this name, a string in small letters; else 0. */
+static inline int dpb_holds(const uint8_t *listing, const char *wanted)
+{
+    const char *name;
+
+    for (name = dpb_first_name(listing); name; name = dpb_next_name(name)) {
+        size_t at = 0;
+
+        while (name[at] != '\n' && name[at] == wanted[at])
+            at++;
+        if (name[at] == '\n' && wanted[at] == 0)
+            return 1;
+    }
+    return 0;
 }
 
 #ifdef __cplusplus

@@ -45,6 +45,25 @@ class Refusal:
     LONG_WRITTEN = 12
 
 
+# What the command says of a refusal, and the header, by its number; and of a number that they do not know. The lister
+# gives neither SHORT_AREA nor FOLDS, so the command does not know these two.
+WORDS = {
+    Refusal.SHORT_AREA: "the listing area is too short: lend 4,608 bytes or more",
+    Refusal.LONG_TEXT: "the text has over 16,384 bytes: shorten remarks and blanks, or split the book",
+    Refusal.MARK: "the first line is not the mark DPB 0001: look for an empty input, a byte order mark before it, "
+    "a carriage return after it, a mark of another version",
+    Refusal.LAST_BYTE: "the last line has no line end: end it, and look whether the text was cut off",
+    Refusal.LINE: "not a rule, a remark or an empty line: "
+    "look for a missing colon, a carriage return, an accent, a comma",
+    Refusal.NAMES: "this line has the 129th name: look for a name spelt in two ways, or split the book",
+    Refusal.RULES: "this line is the 257th rule: drop rules given twice, or split the book",
+    Refusal.ATOMS: "over 256 atoms, which are the names and one more for each rule whose head has several: "
+    "give fewer names several rules",
+    Refusal.FOLDS: "over 8 folds: ask for 0 to 8",
+}
+NO_WORDS = "refused, under a number that this release has no words for"
+
+
 class Printed:
     """the book that document 01 prints: its rules, names, held names, rounds by folds, atoms, c and h"""
 
@@ -68,10 +87,13 @@ def printed_listing(folds):
 
 
 def for_bash():
-    """assignments that a script evaluates: each limit, each refusal as REFUSED_.., the printed book and its listing with \\n for line ends"""
+    """assignments that a script evaluates: each limit, each refusal as REFUSED_.., its words as WORDS_.. with its
+    number, the printed book and its listing with \\n for line ends"""
     limits = {name: value for name, value in globals().items() if name.isupper() and isinstance(value, int)}
     refusals = {"REFUSED_" + name: value for name, value in vars(Refusal).items() if name.isupper()}
-    texts = {"PRINTED": MARK.decode() + Printed.RULES.replace("/", "\n") + "\n", "PRINTED_LISTING": printed_listing(FOLDS)}
+    words = {"NO_WORDS": NO_WORDS, **{"WORDS_%d" % number: text for number, text in WORDS.items()}}
+    printed = MARK.decode() + Printed.RULES.replace("/", "\n") + "\n"
+    texts = {**words, "PRINTED": printed, "PRINTED_LISTING": printed_listing(FOLDS)}
     quoted = {name: "'%s'" % text.replace("\n", "\\n") for name, text in texts.items()}
     return "".join("%s=%s\n" % entry for entry in {**limits, **refusals, **quoted}.items())
 

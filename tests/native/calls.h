@@ -124,6 +124,7 @@ void book_in_file(const char *book, const char *listing); /* known.c too */
 void limits(void);
 void refusals(void);
 void hosting(void);
+void walking(void);
 size_t stack(void); /* the most bytes of stack that a call took */
 
 #endif

@@ -16,7 +16,7 @@ _Static_assert(DPB_REFUSED_MARK == REFUSED_MARK && DPB_REFUSED_NO_LINE_END == RE
 _Static_assert(DPB_REFUSED_LINE == REFUSED_LINE && DPB_REFUSED_NAMES == REFUSED_NAMES && DPB_REFUSED_RULES == REFUSED_RULES, "lines");
 _Static_assert(DPB_REFUSED_ATOMS == REFUSED_ATOMS && DPB_REFUSED_FOLDS == REFUSED_FOLDS, "atoms, folds");
 
-/* The header's two functions. */
+/* The header's two functions on results; walking.c has the others. */
 static void taking_apart(void)
 {
     static const unsigned parts[][2] = {

@@ -16,6 +16,7 @@ int main(int argc, char **argv)
     limits();
     refusals();
     hosting();
+    walking();
     stack_used = stack();
     for (int i = 1; i + 1 < argc; i += 2)
         book_in_file(argv[i], argv[i + 1]);
