@@ -35,7 +35,7 @@ unfolding filled
 begun-filled size xs old h =
     ap₂ (λ (s t : List ℕ). s ++ (replicate (size - length xs) 0 ++ t)) (used xs old) (drop-begun size xs old h)
 
--- the text that was placed
+-- the used part
 pub take-filled : (size : ℕ) (w area : List ℕ) → take (length w) (filled size w area) ≡ w
 unfolding filled
 take-filled size w area = take-append-seam w (replicate (size - length w) 0 ++ drop size area)
@@ -50,7 +50,7 @@ over-filled size xs mine old h e =
     (ap (take size) (e ∙ sym (append-assoc xs zs (drop size mine))) ∙ take-at (xs ++ zs) (drop size mine) size l)
     ∙ append-assoc xs zs (drop size old)
 
--- a filled area with as many other words in front
+-- as many other elements in front
 pub begun-over : (size : ℕ) (xs ys old : List ℕ) → length xs ≡ length ys → begun xs (filled size ys old) ≡ filled size xs old
 unfolding begun
 begun-over size xs ys old e =

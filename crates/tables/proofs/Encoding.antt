@@ -388,5 +388,3 @@ rules-filled ns rs old h =
     rules-in rs (replicate (rules - length (headRows rs)) 0 ++ drop rules (old .heads))
     (replicate (bodyArea - length (bodyRows rs)) 0 ++ drop bodyArea (old .bodies)) (rulesOf (filledWith ns rs old))
     (filled-is rules (headRows rs) (old .heads)) (filled-is bodyArea (bodyRows rs) (old .bodies)) h
-
--- Areas begun.

@@ -27,9 +27,7 @@ use Rattle.tables.specs.Areas.{RuleTables, rulesOf, nonzero, nameAt, nam
 use Rattle.tables.specs.Writing.{written, own, zeroFrom, goodName, different, numbersIn, orderly, metIn, wellFormed, Written, placed, writeCall}
 use Rattle.tables.specs.Sizes.{statedTables, statedRules, tablesWithRest, readWithRest, writtenWithRest, TableSizes}
 
--- The first entries of an area.
-
--- they are too few where the area is too short
+-- the first entries of an area are too few where it is too short
 pub short-first : (size : ℕ) (area : List ℕ) → ltb (length area) size ≡ ltb (length (take size area)) size
 short-first size area =
     iff (ltb (length area) size) (ltb (length (take size area)) size)

@@ -1,5 +1,6 @@
 -- `reader::Reading::rule` meets its contract. Assumes nothing.
-use mathlib.Core.Path.{refl, sym, ap, _∙_, subst}
+use mathlib.Core.Path.{_≡_, refl, sym, ap, _∙_, subst}
+use mathlib.Core.List.{List}
 use Prim.Native.Nat.{ℕ, _+_}
 use native.Mathlib.Omega.{arith}
 use lib.ListN.{set}
@@ -9,7 +10,9 @@ use Rattle.grammar.specs.Bytes.{letters, notEnd}
 use Rattle.scan.specs.Places.{pastAt}
 use Rattle.clause.specs.Line.{formFrom}
 use Rattle.clause.specs.Found.{lexiconOf}
-use Rattle.reader.specs.State.{tablesAt}
+use Rattle.grammar.specs.Grammar.{Clause}
+use Rattle.reader.specs.declared.Step.{Step}
+use Rattle.reader.specs.State.{Tables, tablesAt, Booked, Stepped}
 use Rattle.reader.proofs.Stepping.{booked-ready, end-room, Answered, Behind, stayed-refused, stepped-fault, rule-end, stepped-full, stepped-over, entering, stayed-rule, stepped-rule}
 use Rattle.reader.proofs.Reading.rule.Statement.{statement}
 use Rattle.reader.proofs.Reading.rule.Tie as tie
@@ -74,38 +77,39 @@ rule-at-requires c κs =
     let x = tablesAt (a .self .names) (a .self .rules) (a .spellings .now) (a .first .now) (a .prior .now) (a .heads .now) (a .bodies .now) in
     (s .pre .0, ((s .pre .1 .0 .2, omega (arith, at-row .row-after .ensures .0, b .1 .bodies-long)), booked-ready (b .0) x (b .1)))
 
-returns : tie.Need-returns
-returns c =
-    let at-if1 = c .before in
-    let d = at-if1 .before .before .before .before .before .before .before .before .before .before in
-    let at-row = d .before .before .before .before .before in
-    let s = at-row .before .before .before .before .before .before .before .before in
+-- a refusal there keeps the areas past their sizes, and its cause alone is promised
+refused-there : (d : Found-here) →
+    let s = d .before .before .before .before .before .before .before .before .before .before .before .before .before in
+    let a = s .args in
+    let r = d .rule-at in
+    let x = tablesAt (a .self .names) (a .self .rules) (a .spellings .now) (a .first .now) (a .prior .now) (a .heads .now) (a .bodies .now) in
+    let form = formFrom (letters (a .table .now)) (a .text .now) (a .head .at) in
+    let end = pastAt notEnd (a .text .now) (a .head .at) in
+    (cause : ℕ) (left : Step) → left ≡ record { cause = cause; after = a .self }
+    → ((cs : List Clause) → Booked cs x → (at next : ℕ) (w : Tables) → Stepped cs form end (a .head .line) cause at next w)
+    → Answered form end (a .head .line) x (r .last .1 .1 .1 .0) (r .last .1 .1 .1 .1 .0) (r .last .1 .1 .1 .1 .1 .0) (a .heads .now)
+    (r .last .1 .1 .1 .1 .1 .1 .0) left
+refused-there d cause left e f =
+    let s = d .before .before .before .before .before .before .before .before .before .before .before .before .before in
     let a = s .args in
     let r = d .rule-at in
     let x = tablesAt (a .self .names) (a .self .rules) (a .spellings .now) (a .first .now) (a .prior .now) (a .heads .now) (a .bodies .now) in
     subst (Answered (formFrom (letters (a .table .now)) (a .text .now) (a .head .at)) (pastAt notEnd (a .text .now) (a .head .at)) (a .head .line) x
     (r .last .1 .1 .1 .0) (r .last .1 .1 .1 .1 .0) (r .last .1 .1 .1 .1 .1 .0) (a .heads .now) (r .last .1 .1 .1 .1 .1 .1 .0))
-    (sym (c .before2 .ensures)) (
-      stayed-refused (known d) (a .head .line) _ _,
-      λ cs b. stepped-fault (known d) (a .head .line) (at-if1 .if1 .taken) cs _ _ _,
-    )
+    (sym e) (stayed-refused (known d) (a .head .line) _ _, λ cs b. f cs b _ _ _)
+
+returns : tie.Need-returns
+returns c =
+    let at-if1 = c .before in
+    let d = at-if1 .before .before .before .before .before .before .before .before .before .before in
+    refused-there d _ _ (c .before2 .ensures) (λ cs b. stepped-fault (known d) _ (at-if1 .if1 .taken) cs)
 
 returns-2 : tie.Need-returns-2
 returns-2 c =
     let at-if2 = c .before in
     let at-if1 = at-if2 .before in
     let d = at-if1 .before .before .before .before .before .before .before .before .before .before in
-    let at-row = d .before .before .before .before .before in
-    let s = at-row .before .before .before .before .before .before .before .before in
-    let a = s .args in
-    let r = d .rule-at in
-    let x = tablesAt (a .self .names) (a .self .rules) (a .spellings .now) (a .first .now) (a .prior .now) (a .heads .now) (a .bodies .now) in
-    subst (Answered (formFrom (letters (a .table .now)) (a .text .now) (a .head .at)) (pastAt notEnd (a .text .now) (a .head .at)) (a .head .line) x
-    (r .last .1 .1 .1 .0) (r .last .1 .1 .1 .1 .0) (r .last .1 .1 .1 .1 .1 .0) (a .heads .now) (r .last .1 .1 .1 .1 .1 .1 .0))
-    (sym (c .before3 .ensures)) (
-      stayed-refused (known d) (a .head .line) _ _,
-      λ cs b. stepped-full (known d) (a .head .line) (at-if1 .if1 .left) (at-if2 .if2 .taken) cs b _ _ _,
-    )
+    refused-there d _ _ (c .before3 .ensures) (stepped-full (known d) _ (at-if1 .if1 .left) (at-if2 .if2 .taken))
 
 returns-3 : tie.Need-returns-3
 returns-3 c =
@@ -113,17 +117,7 @@ returns-3 c =
     let at-if2 = at-if3 .before .before in
     let at-if1 = at-if2 .before in
     let d = at-if1 .before .before .before .before .before .before .before .before .before .before in
-    let at-row = d .before .before .before .before .before in
-    let s = at-row .before .before .before .before .before .before .before .before in
-    let a = s .args in
-    let r = d .rule-at in
-    let x = tablesAt (a .self .names) (a .self .rules) (a .spellings .now) (a .first .now) (a .prior .now) (a .heads .now) (a .bodies .now) in
-    subst (Answered (formFrom (letters (a .table .now)) (a .text .now) (a .head .at)) (pastAt notEnd (a .text .now) (a .head .at)) (a .head .line) x
-    (r .last .1 .1 .1 .0) (r .last .1 .1 .1 .1 .0) (r .last .1 .1 .1 .1 .1 .0) (a .heads .now) (r .last .1 .1 .1 .1 .1 .1 .0))
-    (sym (c .before4 .ensures)) (
-      stayed-refused (known d) (a .head .line) _ _,
-      λ cs b. stepped-over (known d) (a .head .line) (at-if1 .if1 .left) (at-if2 .if2 .left) (not-true _ (at-if3 .if3 .taken)) cs b _ _ _,
-    )
+    refused-there d _ _ (c .before4 .ensures) (stepped-over (known d) _ (at-if1 .if1 .left) (at-if2 .if2 .left) (not-true _ (at-if3 .if3 .taken)))
 
 cast-heads : tie.Need-cast-heads
 cast-heads c =
