@@ -2,7 +2,8 @@
  * dpb.h: the call of the DPB rule engine for C and C++, on x86-64 Linux.
  *
  * One call reads a rule book and lists the names that hold: those in every
- * model of the book. docs/FORMAT.md says how a book is written.
+ * model of the book. docs/GUIDE.md and docs/FORMAT.md say how a book is written,
+ * docs/CALLS.md what other calls there are in Rattle.
  *
  * It asks for C99 or later, or C++11 or later; for C++98 too, where the
  * compiler has <stdint.h>, as GCC does.
