@@ -1,18 +1,18 @@
-# A reader and an engine written apart from ours, from document 01 alone, which the checks of tests/ share. The reader goes by regular
-# expressions over whole lines. Rows are Python sets, standardised by the four kinds of document 01; no fold is made, the rows after k folds
-# are the atoms reached in exactly 2^k steps along rows; rounds go by their definition. What is held, a work list over the spellings of the
-# rules says, and for few names every model there is.
+# A reader, a writer and an engine written apart from ours, from the documents alone, which the checks of tests/ share. The reader goes by regular
+# expressions over whole lines, made from the folding table that it is lent; the writer by what the reader makes of its text. Rows are Python
+# sets, standardised by the four kinds of document 01; no fold is made, the rows after k folds are the atoms reached in exactly 2^k steps along
+# rows; rounds go by their definition. What is held, a work list over the spellings of the rules says, and for few names every model there is.
 import functools
 import itertools
+import math
 import os
 import re
+import string
 import sys
 
-from figures import ATOMS, BODY_AREA, BODY_WORDS, MARK, NAME_AREA, NAME_BYTES, NAMES, RULES, TEXT_BYTES, WORD_BITS, Refusal
+from figures import ATOMS, BODY_AREA, BODY_WORDS, LETTER_BYTES, MARK, NAME_AREA, NAME_BYTES, NAMES, RULES, TEXT_BYTES, WORD_BITS, Refusal
 
 ROOT = os.path.join(os.path.dirname(os.path.abspath(__file__)), "..")
-NAME = rb"[A-Za-z0-9._-]+"
-RULE = re.compile(rb"[ \t]*(" + NAME + rb")[ \t]*:[ \t]*(" + NAME + rb"(?:[ \t]+" + NAME + rb")*)?[ \t]*")
 # what the areas of the test programs hold before a call, the entries that they lend past the stated sizes, up to how many atoms they print rows and
 # listings whole, and how large a file they read: the figures of crates/trial
 JUNK8, JUNK16, JUNK64, GUARD = 165, 4660, 81985529216486895, 4
@@ -28,6 +28,45 @@ class Refused(Exception):
         self.number, self.line = number, line
 
 
+# Folding tables: an entry for each byte value, 0 for a byte that no name has, else the folded byte.
+
+SMALL, CAPITAL, DIGITS = (letters.encode() for letters in (string.ascii_lowercase, string.ascii_uppercase, string.digits))
+# those that document 02 (2.9) keeps out of names
+RESERVED = b"\0\t\n\r !#:@"
+
+
+def folding(own, folded=b"", to=b""):
+    """the table in which these bytes are their own entries, and others fold to some, one by one"""
+    table = bytearray(LETTER_BYTES)
+    for byte, entry in [*zip(own, own), *zip(folded, to)]:
+        table[byte] = entry
+    return bytes(table)
+
+
+# document 01: letters, digits, `.`, `_`, `-`, folded to small letters
+LETTERS = folding(SMALL + DIGITS + b"._-", CAPITAL, SMALL)
+
+
+def judge(table):
+    """refuses a table under which nothing is read or written; what lies past its entries is free"""
+    if len(table) < LETTER_BYTES:
+        raise Refused(Refusal.SHORT_AREA)
+    if any(table[byte] for byte in RESERVED):
+        raise Refused(Refusal.RESERVED_BYTE)
+    own = {byte for byte in range(LETTER_BYTES) if table[byte] == byte}
+    if not own.issuperset(filter(None, table[:LETTER_BYTES])):
+        raise Refused(Refusal.UNSETTLED_ENTRY)
+
+
+@functools.lru_cache(4096)
+def forms(entries):
+    """regular expressions for a name and for a rule, head and body apart; where no byte has an entry there is no name"""
+    known = b"".join(re.escape(bytes([byte])) for byte in range(LETTER_BYTES) if entries[byte])
+    name = b"[" + known + b"]+" if known else b"(?!)"
+    rule = rb"[ \t]*(" + name + rb")[ \t]*:[ \t]*(" + name + rb"(?:[ \t]+" + name + rb")*)?[ \t]*"
+    return re.compile(name), re.compile(rule)
+
+
 # Books.
 
 
@@ -36,31 +75,51 @@ def text_of(lines):
     return MARK + b"".join(line + b"\n" for line in lines)
 
 
-def read(text):
-    """names and rules (head, set of numbers) of a book"""
-    if len(text) > TEXT_BYTES:
+def read(text, table=LETTERS, most=TEXT_BYTES):
+    """names and rules (head, set of numbers) of a book under a folding table, of at most so many bytes"""
+    judge(table)
+    if len(text) > most:
         raise Refused(Refusal.LONG_TEXT)
     if not text.startswith(MARK):
         raise Refused(Refusal.MARK)
     if not text.endswith(b"\n"):
         raise Refused(Refusal.LAST_BYTE)
+    name_form, rule_form = forms(table[:LETTER_BYTES])
     numbers, rules = {}, []
     for place, line in enumerate(text.split(b"\n")[1:-1]):
         if line.startswith(b"#") or not line.strip(b" \t"):
             continue
-        form = RULE.fullmatch(line)
-        spelt = [form[1]] + (form[2] or b"").split() if form else []
+        form = rule_form.fullmatch(line)
+        spelt = [name.translate(table[:LETTER_BYTES]) for name in [form[1], *name_form.findall(form[2] or b"")]] if form else []
         if not form or any(len(name) > NAME_BYTES for name in spelt):
             raise Refused(Refusal.LINE, place + 2)
         if len(rules) == RULES:
             raise Refused(Refusal.RULES, place + 2)
         for name in spelt:
-            numbers.setdefault(name.lower(), len(numbers))
+            numbers.setdefault(name, len(numbers))
         if len(numbers) > NAMES:
             raise Refused(Refusal.NAMES, place + 2)
-        head, *body = [numbers[name.lower()] for name in spelt]
+        head, *body = [numbers[name] for name in spelt]
         rules.append((head, set(body)))
     return list(numbers), rules
+
+
+def write(names, rules, table=LETTERS):
+    """the text of names and rules (head, set of numbers) under a folding table. Where a book of any length reads to them, this text does too: a body's
+    names that are new have rising numbers in that book, and here all have. So it is this text's reading that says whether they are well formed"""
+    judge(table)
+    if any(a >= len(names) for head, body in rules for a in (head, *body)):
+        raise Refused(Refusal.ILL_FORMED)
+    text = text_of(names[head] + b":" + b" ".join(names[a] for a in sorted(body)) for head, body in rules)
+    try:
+        same = read(text, table, math.inf) == (names, rules)
+    except Refused:
+        same = False
+    if not same:
+        raise Refused(Refusal.ILL_FORMED)
+    if len(text) > TEXT_BYTES:
+        raise Refused(Refusal.LONG_WRITTEN)
+    return text
 
 
 # What a book holds.

@@ -1,5 +1,6 @@
-# The figures of document 01, once for all checks in Python: limits, sizes of areas, refusals by name, and the book that it prints. C has them in
-# tests/native/figures.h, Rust in tests/second/figures.rs. tests/figures holds the three to each other, to the engine's own and to the pages.
+# The figures of document 01, and of document 02 as far as it is landed, once for all checks in Python: limits, sizes of areas, refusals by name, and
+# the book that document 01 prints. C has them in tests/native/figures.h, Rust in tests/second/figures.rs. tests/figures holds the three to each other,
+# to the engine's own and to the pages.
 
 # Limits: at most this many.
 TEXT_BYTES = 16384
@@ -13,6 +14,9 @@ FOLDS = 8
 WORD_BITS = 64
 ROW_WORDS = 4
 BODY_WORDS = 2
+
+# Bytes of a folding table: an entry for each byte value.
+LETTER_BYTES = 256
 
 # The sizes of areas, in entries; that of heads is RULES, that of the model area ROW_WORDS.
 NAME_AREA = NAMES * NAME_BYTES
@@ -43,6 +47,8 @@ class Refusal:
     ILL_FORMED = 10
     START_LOST = 11
     LONG_WRITTEN = 12
+    RESERVED_BYTE = 20
+    UNSETTLED_ENTRY = 21
 
 
 # What the command says of a refusal, and the header, by its number; and of a number that they do not know. The lister

@@ -1,9 +1,9 @@
 /*
- * The figures of document 01, typed from it once for the C programs: limits,
- * refusals by name, and the book that it prints. Python has them in
- * tests/figures.py, Rust in tests/second/figures.rs. tests/figures holds the
- * three to each other, to the engine's own and to the pages; known.c holds
- * those of include/dpb.h to these.
+ * The figures of document 01, and of document 02 as far as it is landed, typed
+ * from them once for the C programs: limits, refusals by name, and the book that
+ * document 01 prints. Python has them in tests/figures.py, Rust in
+ * tests/second/figures.rs. tests/figures holds the three to each other, to the
+ * engine's own and to the pages; known.c holds those of include/dpb.h to these.
  */
 #ifndef FIGURES_H
 #define FIGURES_H
@@ -20,6 +20,9 @@
 #define WORD_BITS 64
 #define ROW_WORDS 4
 #define BODY_WORDS 2
+
+/* Bytes of a folding table: an entry for each byte value. */
+#define LETTER_BYTES 256
 
 /* Bytes of the listing area, and of the longest listing. */
 #define LISTING_BYTES 4608
@@ -49,6 +52,8 @@
 #define REFUSED_ILL_FORMED 10
 #define REFUSED_START_LOST 11
 #define REFUSED_LONG_WRITTEN 12
+#define REFUSED_RESERVED_BYTE 20
+#define REFUSED_UNSETTLED_ENTRY 21
 
 /* The book that document 01 prints, '/' for a line end, and its listings without a fold, with one, and with as many as are allowed. */
 #define PRINTED "p:q/q:p r/q:s/s:"

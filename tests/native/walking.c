@@ -87,7 +87,7 @@ static void holding(void)
 static void words(void)
 {
     static const unsigned unknown[] = {
-        REFUSED_ILL_FORMED, REFUSED_START_LOST, REFUSED_LONG_WRITTEN, 13, 255, 65536, ~0u,
+        REFUSED_ILL_FORMED, REFUSED_START_LOST, REFUSED_LONG_WRITTEN, REFUSED_RESERVED_BYTE, REFUSED_UNSETTLED_ENTRY, 13, 255, 65536, ~0u,
     };
     const char *none = dpb_words(13);
 

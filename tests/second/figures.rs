@@ -1,5 +1,6 @@
-//! The figures of document 01, once for this program: limits, refusals by name, and the book that it prints. Python has them in tests/figures.py, C in
-//! tests/native/figures.h. tests/figures holds the three to each other, to the engine's own and to the pages.
+//! The figures of document 01, and of document 02 as far as it is landed, once for this program: limits, refusals by name, and the book that document 01
+//! prints. Python has them in tests/figures.py, C in tests/native/figures.h. tests/figures holds the three to each other, to the engine's own and to the
+//! pages.
 
 // Figures that only other programs use stand here too, so that each home has all of them.
 #![allow(dead_code)]
@@ -15,6 +16,9 @@ pub const NAME_BYTES: usize = 32;
 pub const RULES: usize = 256;
 pub const ATOMS: usize = 256;
 pub const FOLDS: u64 = 8;
+
+/// Bytes of a folding table: an entry for each byte value.
+pub const LETTER_BYTES: usize = 256;
 
 /// Bytes of the listing area, and of the longest listing.
 pub const LISTING_BYTES: usize = 4_608;
@@ -37,6 +41,8 @@ pub mod refusal {
     pub const ILL_FORMED: u64 = 10;
     pub const START_LOST: u64 = 11;
     pub const LONG_WRITTEN: u64 = 12;
+    pub const RESERVED_BYTE: u64 = 20;
+    pub const UNSETTLED_ENTRY: u64 = 21;
 
     /// Those that the call for C returns.
     pub const RETURNED: [u64; 9] = [SHORT_AREA, LONG_TEXT, MARK, LAST_BYTE, LINE, NAMES, RULES, ATOMS, FOLDS];

@@ -5,17 +5,11 @@ mod whole;
 
 use trial::files;
 
-// Whether the name of the file begins `ev`, as `every_byte_..`: a book in which each `?` takes every byte value.
-fn swept(i: usize) -> bool {
-    let mut name = io::buffer();
-    let n = os::arg(i, &mut name);
-    n >= 2 && name[0] == b'e' && name[1] == b'v'
-}
-
+// In a file to be swept, a book, each `?` takes every byte value.
 fn argument(i: usize) {
     let mut text = [0u8; files::INPUT];
     let got = files::take(i, &mut text);
-    if swept(i) {
+    if files::swept(i) {
         whole::sweep(&text[..got]);
     } else {
         whole::show(&text[..got]);

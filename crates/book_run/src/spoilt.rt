@@ -2,6 +2,7 @@
 // that are too short.
 use crate::whole;
 use limits::Book;
+use scan::table::folding;
 use trial::areas::Area;
 use trial::print;
 
@@ -15,8 +16,9 @@ fn written_to(
     text: &mut [u8],
     room: usize,
 ) {
+    let table = folding();
     if room <= text.len() {
-        let w = writer::write(spellings, heads, bodies, n, m, &mut text[0..room]);
+        let w = writer::write(spellings, heads, bodies, &table, n, m, &mut text[0..room]);
         print::first(w.number as u64);
         print::number(w.size as u64);
         print::total8(text);
@@ -83,7 +85,14 @@ fn set64(area: &mut [u64], at: usize, value: u64) {
 
 // The small book's tables: names p q r s, four rules.
 fn small(spellings: &mut [u8], heads: &mut [u16], bodies: &mut [u64]) {
-    reader::read(b"DPB 0001\np:q\nq:p r\nq:s\ns:\n", spellings, heads, bodies);
+    let table = folding();
+    reader::read(
+        b"DPB 0001\np:q\nq:p r\nq:s\ns:\n",
+        &table,
+        spellings,
+        heads,
+        bodies,
+    );
 }
 
 // With other counts.

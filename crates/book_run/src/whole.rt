@@ -1,5 +1,6 @@
 // Whole books: read, shown, written and read again.
 use reader::Answer;
+use scan::table::folding;
 use trial::areas::Area;
 use trial::print;
 
@@ -20,9 +21,10 @@ fn print_totals(spellings: &[u8], heads: &[u16], bodies: &[u64]) {
     print::end();
 }
 
-// Reads into areas that are lent, and prints the answer and a checksum of each.
+// Reads into areas that are lent, by our letters, and prints the answer and a checksum of each.
 pub fn judge(text: &[u8], spellings: &mut [u8], heads: &mut [u16], bodies: &mut [u64]) -> Answer {
-    let r = reader::read(text, spellings, heads, bodies);
+    let table = folding();
+    let r = reader::read(text, &table, spellings, heads, bodies);
     print_answer(r);
     print_totals(spellings, heads, bodies);
     r
@@ -63,8 +65,9 @@ fn reread(text: &[u8], size: usize, spellings: &[u8], n: usize) {
 }
 
 fn rewrite(spellings: &[u8], heads: &[u16], bodies: &[u64], n: usize, m: usize) {
+    let table = folding();
     let mut text = [Area::MARK8; Area::TEXT];
-    let w = writer::write(spellings, heads, bodies, n, m, &mut text);
+    let w = writer::write(spellings, heads, bodies, &table, n, m, &mut text);
     print::first(w.size as u64);
     print::total8(&text);
     print::end();

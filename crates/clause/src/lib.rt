@@ -14,7 +14,7 @@ ghost use lib.ListN.{length, drop, replicate};
 ghost use Rattle.limits.specs.Book.{bodyWords, nameArea};
 ghost use Rattle.grammar.specs.Bytes.{lineEnd, Bytes, nameByte, letters};
 ghost use Rattle.grammar.specs.Lines.{starts, isName};
-ghost use Rattle.scan.specs.Fold.{FoldTable};
+ghost use Rattle.grammar.specs.Letters.{FoldTable};
 ghost use Rattle.scan.specs.Places.{pastAt, nameRun, nameFolded};
 ghost use Rattle.clause.specs.Line.{LineEnds};
 ghost use Rattle.clause.specs.Found.{NameHere, Kept, lexiconOf, namesAt, InOrder, Meeting, Onward, Bodied, Said};

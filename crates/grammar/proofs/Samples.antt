@@ -1,10 +1,16 @@
--- Sample lines with their forms, computed.
+-- Sample lines with their forms, and sample folding tables with the numbers under which they are refused, computed.
 -- Assumes nothing.
 use mathlib.Core.Path.{_≡_, refl}
 use mathlib.Core.List.{List, [], _∷_, map}
+use mathlib.Core.Bool.{not, _&&_}
+use Prim.Native.Nat.{ℕ, _+_}
 use Prim.Native.String.{String}
-use Rattle.sets.specs.Set.{pick}
-use Rattle.grammar.specs.Bytes.{bytes, blank, small, ourLetters, nameByte, allOf}
+use lib.Dec.{eqb}
+use lib.ListN.{set, replicate}
+use Rattle.limits.specs.Book.{letterBytes}
+use Rattle.sets.specs.Set.{pick, exists}
+use Rattle.grammar.specs.Bytes.{bytes, blank, from-to, small, ourLetters, letters, reserved, nameByte, allOf}
+use Rattle.grammar.specs.Letters.{anyReserved, anyUnsettled, tableCause, entriesFrom, ourTable}
 use Rattle.grammar.specs.Grammar.{Form, silent, rule, fault}
 use Rattle.grammar.specs.Lines.{span, grown, goesOn, wordsOf, isName, allNames, fromColon, fromHead, starts, formOf}
 
@@ -36,3 +42,40 @@ table =
 pub line-forms : map (λ (r : String × Form). formOf ourLetters (bytes (r .0))) table ≡ map (λ (r : String × Form). r .1) table
 unfolding pick blank small ourLetters nameByte allOf span grown goesOn wordsOf isName allNames fromColon fromHead starts formOf
 line-forms = refl
+
+-- document 01's table with another entry at one byte: that byte, its entry, and the number. Each reserved byte; one whose entry is not its
+-- own besides; entries that are not their own; tables that pass
+abbrev changed : List (ℕ × ℕ × ℕ)
+changed =
+    (0, 97, 20)
+    ∷ (9, 97, 20)
+    ∷ (10, 97, 20)
+    ∷ (13, 97, 20)
+    ∷ (32, 97, 20)
+    ∷ (33, 97, 20)
+    ∷ (35, 97, 20)
+    ∷ (58, 97, 20)
+    ∷ (64, 97, 20)
+    ∷ (64, 200, 20)
+    ∷ (65, 66, 21)
+    ∷ (97, 0, 21)
+    ∷ (255, 254, 21)
+    ∷ (45, 0, 0)
+    ∷ (65, 65, 0)
+    ∷ (127, 97, 0)
+    ∷ (255, 255, 0)
+    ∷ []
+
+-- the computed numbers are those
+pub table-causes : map (λ (r : ℕ × ℕ × ℕ). tableCause (set ourTable (r .0) (r .1))) changed ≡ map (λ (r : ℕ × ℕ × ℕ). r .2) changed
+unfolding pick exists blank small ourLetters reserved letters anyReserved anyUnsettled tableCause entriesFrom ourTable
+table-causes = refl
+
+-- Latin-1 as docs/FORMAT.md makes it: capitals with accents fold to the small letter, small ones stay, the rest is ours
+unfoldable pub latin : ℕ → ℕ
+latin b = pick (from-to 192 222 b && not (eqb b 215)) (b + 32) (pick (from-to 223 255 b && not (eqb b 247)) b (ourLetters b))
+
+-- its table passes, and so does a table of zeros
+pub tables-pass : map tableCause (entriesFrom latin letterBytes 0 ∷ replicate letterBytes 0 ∷ []) ≡ 0 ∷ 0 ∷ []
+unfolding pick exists blank small ourLetters letters reserved anyReserved anyUnsettled tableCause entriesFrom latin
+tables-pass = refl

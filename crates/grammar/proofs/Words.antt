@@ -1,7 +1,7 @@
 -- Words of a line against names, for any folding that keeps its rule; the form of a line by the steps that reading it takes.
 -- Assumes nothing.
 use mathlib.Core.Path.{_≡_, refl, sym, ap, ap₂, _∙_}
-use mathlib.Core.Bool.{Bool, true, false, not, _&&_, _||_}
+use mathlib.Core.Bool.{Bool, true, false, not, _&&_}
 use mathlib.Core.List.{List, [], _∷_, _++_, append-nil}
 use Prim.Native.Nat.{ℕ, zero}
 use lib.Dec.{eqb, leb}
@@ -9,7 +9,7 @@ use lib.ListN.{length, take, drop}
 use borrow.Author.Tests.{eqb-true, leb-true}
 use Rattle.limits.specs.Book.{nameBytes}
 use Rattle.sets.specs.Set.{pick}
-use Rattle.sets.proofs.Logic.{either, clash, not-true, and-left, and-right, or-left, not-of-false, pick-true, pick-false}
+use Rattle.sets.proofs.Logic.{either, clash, not-true, and-left, and-right, or-left, or-right, not-of-false, pick-true, pick-false}
 use Rattle.grammar.specs.Bytes.{Bytes, Folding, blank, nameByte, allOf, colon, hash, lineEnd, reserved}
 use Rattle.grammar.specs.Grammar.{Name, Form, silent, rule, fault, spelling}
 use Rattle.grammar.specs.Lines.{span, run, past, grown, goesOn, wordsOf, isName, allNames, fromColon, fromHead, starts, formOf}
@@ -19,7 +19,7 @@ use Rattle.grammar.proofs.Spans.{run-past, span-past-run, head-fails, p
 -- blanks and the line end are reserved
 pub blank-reserved : (b : ℕ) → blank b ≡ true → reserved b ≡ true
 unfolding reserved
-blank-reserved b e = or-left (eqb b lineEnd || (eqb b colon || (eqb b hash || eqb b 0))) e
+blank-reserved b e = or-right (eqb b 0) (or-left _ e)
 
 pub end-reserved : reserved lineEnd ≡ true
 unfolding reserved blank

@@ -9,6 +9,7 @@ use Prim.Native.Char.{code}
 use Prim.Native.String.{String, [] as empty, _∷_ as _then_}
 use lib.Dec.{eqb, leb, ltb}
 use lib.ListN.{getD}
+use Rattle.limits.specs.Book.{letterBytes}
 use Rattle.sets.specs.Set.{pick}
 
 abbrev pub Bytes : Type 0
@@ -30,6 +31,18 @@ colon = 58
 -- `#`
 abbrev pub hash : ℕ
 hash = 35
+
+-- 0x0D, which ends no line
+abbrev pub carriageReturn : ℕ
+carriageReturn = 13
+
+-- `!`
+abbrev pub exclamation : ℕ
+exclamation = 33
+
+-- `@`
+abbrev pub atSign : ℕ
+atSign = 64
 
 -- space
 abbrev pub space : ℕ
@@ -57,11 +70,12 @@ ourLetters b = pick (from-to 65 90 b) (b + 32) (pick (small b) b 0)
 
 -- the folding that a table gives: "one for each byte value", and 0 for a number that is no byte
 unfoldable pub letters : List ℕ → ℕ → ℕ
-letters table b = pick (ltb b 256) (getD table b 0) 0
+letters table b = pick (ltb b letterBytes) (getD table b 0) 0
 
--- bytes that are no part of a name under any folding: 0, which pads names, and the bytes of the grammar
+-- "Byte 0, the blanks, 0x0A, 0x0D and `:`, `#`, `!`, `@`": bytes that are no part of a name under any folding
 unfoldable pub reserved : ℕ → Bool
-reserved b = blank b || (eqb b lineEnd || (eqb b colon || (eqb b hash || eqb b 0)))
+reserved b =
+    eqb b 0 || (blank b || (eqb b lineEnd || (eqb b carriageReturn || (eqb b colon || (eqb b hash || (eqb b exclamation || eqb b atSign))))))
 
 -- the rule of a folding, ours or another: reserved bytes have entry 0, folding a folded byte changes nothing, and every entry is a byte
 pub record Folding (fold : ℕ → ℕ) : Type 0 where

@@ -1,4 +1,5 @@
 pub mod Bytes
+pub mod Letters
 pub mod Grammar
 pub mod Lines
 pub mod Claims

@@ -1,7 +1,8 @@
 // A book listed in areas of its own, and what the lister prints of it.
 use limits::Book;
 ghost use mathlib.Core.Path.{_≡_};
-ghost use Rattle.grammar.specs.Bytes.{ourLetters};
+ghost use Rattle.grammar.specs.Bytes.{ourLetters, letters};
+ghost use Rattle.grammar.specs.Letters.{ourTable};
 ghost use Rattle.tables.specs.Reading.{bookOf};
 ghost use Rattle.solver.specs.End.{listedEnd};
 ghost use Rattle.hosting.specs.List.{listCall};
@@ -16,11 +17,11 @@ pub struct Verdict {
     pub end: usize,
 }
 
-// Solves the book in areas on its own stack; only the listing area is lent.
+// Solves the book by our letters, in areas on its own stack; only the listing area is lent. Our table passes, so it is not judged.
 pub fn list(text: &[u8], folds: usize, listing: &mut [u8]) -> Verdict
     ensures listed { λ r. ⌜ record { number = r .number; line = r .line; listing = now (listing .exit) }
-        ≡ listCall ourLetters (now (text .entry)) folds (now (listing .entry)) ⌝ }
-    ensures end { λ r. ⌜ r .end ≡ listedEnd (r .number) (bookOf ourLetters (now (text .entry))) folds ⌝ }
+        ≡ listCall ourTable (now (text .entry)) folds (now (listing .entry)) ⌝ }
+    ensures end { λ r. ⌜ r .end ≡ listedEnd (r .number) (bookOf (letters ourTable) (now (text .entry))) folds ⌝ }
 {
     let mut spellings = [0u8; Book::NAME_AREA];
     let mut heads = [0u16; Book::RULES];
@@ -29,8 +30,10 @@ pub fn list(text: &[u8], folds: usize, listing: &mut [u8]) -> Verdict
     let mut any = [0u64; Book::ROW_AREA];
     let mut spare = [0u64; Book::ROW_AREA];
     let mut model = [0u64; Book::ROW_WORDS];
+    let table = scan::table::folding();
     let r = solver::solve_in(
         text,
+        &table,
         folds,
         &mut spellings,
         &mut heads,

@@ -2,19 +2,22 @@
 -- Assumes nothing.
 use mathlib.Core.Path.{_≡_, refl, sym, ap, ap₂, subst, _∙_}
 use mathlib.Core.Bool.{true}
-use mathlib.Core.Logic.{_⊎_, _↔_, Iff·trans, ⊎-elim}
+use mathlib.Core.Logic.{_⊎_, inl, inr, _↔_, Iff·trans, ⊎-elim}
+use mathlib.Core.List.{List, _∷_}
 use Prim.Native.Nat.{ℕ, _/_, _%_, _≤_, _<_}
 use native.Mathlib.Omega.{arith}
 use lib.Dec.{eqb, ltb}
 use lib.ListN.{length}
 use borrow.Author.Tests.{eqb-true, eqb-false, ltb-true, ltb-false}
-use Rattle.limits.specs.Book.{listingBytes}
-use Rattle.limits.specs.Cause.{OneOf, lineCauses, solveCauses}
-use Rattle.limits.proofs.Causes.{without, other, solve-left}
+use Rattle.limits.specs.Book.{letterBytes, listingBytes}
+use Rattle.limits.specs.Cause.{OneOf, lineCauses, solveCauses, hostCauses}
+use Rattle.limits.proofs.Causes.{without, other, inside, one-inside, solve-left}
 use Rattle.sets.proofs.Logic.{either}
-use Rattle.grammar.specs.Bytes.{Bytes, Folding}
+use Rattle.grammar.specs.Bytes.{Bytes, letters}
+use Rattle.grammar.specs.Letters.{FoldTable}
+use Rattle.grammar.proofs.Letters.{fold-reserved, fold-unsettled}
 use Rattle.solving.specs.Solve.{SolveAreas, SolveOutcome, solveCall}
-use Rattle.solving.specs.SolveClaims.{SolveLong, InRange, SolveJudges}
+use Rattle.solving.specs.SolveClaims.{SolveLong, SolveReady, InRange, SolveJudges}
 use Rattle.solving.proofs.Judging.{solve-judges}
 use Rattle.solving.proofs.Past.{solve-past}
 use Rattle.hosting.specs.List.{ownAreas, seen, listCall}
@@ -30,33 +33,39 @@ same-one a b c d l m e = (
   sym (line-back a b l) ∙ ap (λ (n : ℕ). n % refusalUnit) e ∙ line-back c d m,
 )
 
-module _ (fold : ℕ → ℕ) (folding : Folding fold) (t : Bytes) (k : ℕ) (old : Bytes) where
+module _ (table : List ℕ) (passes : FoldTable table) (t : Bytes) (k : ℕ) (old : Bytes) where
+  abbrev fold : ℕ → ℕ
+  fold = letters table
+
   -- what the solver answers and leaves, and what is known of it
   abbrev own : SolveAreas
   own = ownAreas old
 
   abbrev r : SolveOutcome
-  r = solveCall fold t k own
+  r = solveCall table t k own
 
-  judges : SolveJudges fold t k own r
-  judges = solve-judges fold folding t k own
+  judges : SolveJudges table t k own r
+  judges = solve-judges table t k own
 
   -- the call by it
-  pub call-is : hostCall fold t k old ≡ called (seen r)
+  pub call-is : hostCall table t k old ≡ called (seen r)
   unfolding hostCall listCall
   call-is = refl
 
   -- number and line are in range
   ranges : Ranged (r .answer .number) (r .answer .line)
   unfolding listCall
-  ranges = list-range fold folding t k old
+  ranges = list-range table t k old
 
   -- the solver's ranges are the host's
-  to-host : InRange t k own → HostRange t k old
-  to-host p = (p .0 .listing, p .1, p .2)
+  to-host : InRange table t k own → HostRange t k old
+  to-host p = (p .0 .0 .listing, p .1, p .2)
 
-  from-host : HostRange t k old → InRange t k own
-  from-host p = (own-long old (p .0), p .1, p .2)
+  ready : listingBytes ≤ length old → SolveReady table own
+  ready l = (own-long old l, passes)
+
+  from-host : HostRange t k old → InRange table t k own
+  from-host p = (ready (p .0), p .1, p .2)
 
   -- A number that comes with line 0, exactly where A holds: the number returned is that, exactly where A holds.
   one-way : {A : Type 0} (q : ℕ) → (r .answer .number ≡ q) ↔ A → (r .answer .number ≡ q → r .answer .line ≡ 0)
@@ -72,14 +81,23 @@ module _ (fold : ℕ → ℕ) (folding : Folding fold) (t : Bytes) (k : ℕ) (ol
       either (eqb (r .answer .line) 0) (λ l. eqb-true (r .answer .line) 0 l)
       (λ l. absurd (other q (r .answer .number) lineCauses e (judges .lined .0 (eqb-false (r .answer .line) 0 l)) z))
 
-  -- an area too short is not long
-  short-way : (SolveLong own → ⊥) ↔ (length old < listingBytes)
+  -- areas and table are long enough but for a listing area too short
+  short-way : (SolveLong own × (letterBytes ≤ length table) → ⊥) ↔ (length old < listingBytes)
   short-way = (
     λ h.
         either (ltb (length old) listingBytes) (λ e. ltb-true (length old) listingBytes e)
-        (λ e. absurd (h (own-long old (ltb-false (length old) listingBytes e)))),
-    λ l long. omega (arith, long .listing),
+        (λ e. absurd (h (own-long old (ltb-false (length old) listingBytes e), passes .0))),
+    λ l long. omega (arith, long .0 .listing),
   )
+
+  -- 20 and 21 are never given, since the table passes
+  not-letters : (n : ℕ) → n ≡ r .answer .number → OneOf n solveCauses → OneOf n hostCauses
+  unfolding inside without OneOf
+  not-letters n e m =
+      ⊎-elim (λ (z : n ≡ 20). absurd (fold-reserved table (passes .1) (judges .letters-judged .reserved .0 (sym e ∙ z) .2)))
+      (⊎-elim (λ (z : n ≡ 21). absurd (fold-unsettled table (passes .1) (judges .letters-judged .unsettled .0 (sym e ∙ z) .3)))
+      (λ i. i))
+      (one-inside n solveCauses (20 ∷ 21 ∷ hostCauses) refl m)
 
   -- a refusal leaves the listing area as it was
   as-it-was : (r .answer .number ≡ 0 → ⊥) → r .areas .listing ≡ old
@@ -103,9 +121,9 @@ module _ (fold : ℕ → ℕ) (folding : Folding fold) (t : Bytes) (k : ℕ) (ol
   unfolding without
   seen-judges = record {
     accepts = one-way 0 (Iff·trans (judges .accepts) (λ p. (to-host (p .0), p .1), λ p. (from-host (p .0), p .1))) (no-line 0 refl);
-    short = one-way 1 (Iff·trans (judges .short) short-way) (no-line 1 refl);
-    long-text = one-way 2 (Iff·trans (judges .long-text) (λ p. (p .0 .listing, p .1), λ p. (own-long old (p .0), p .1))) (no-line 2 refl);
-    over-folds = one-way 9 (Iff·trans (judges .over-folds) (λ p. (p .0 .listing, p .1, p .2), λ p. (own-long old (p .0), p .1, p .2))) (no-line 9 refl);
+    short = one-way 1 (Iff·trans (judges .letters-judged .short) short-way) (no-line 1 refl);
+    long-text = one-way 2 (Iff·trans (judges .long-text) (λ p. (p .0 .0 .listing, p .1), λ p. (ready (p .0), p .1))) (no-line 2 refl);
+    over-folds = one-way 9 (Iff·trans (judges .over-folds) (λ p. (p .0 .0 .listing, p .1, p .2), λ p. (ready (p .0), p .1, p .2))) (no-line 9 refl);
     text = λ q line m l. (
       λ e.
           let s = same-one (r .answer .number) (r .answer .line) q line (omega (arith, ranges .1)) l e in
@@ -116,19 +134,21 @@ module _ (fold : ℕ → ℕ) (folding : Folding fold) (t : Bytes) (k : ℕ) (ol
           ap₂ asOne (s .0) (s .1),
     );
     over-atoms = one-way 8 (Iff·trans (judges .over-atoms) (λ p. (to-host (p .0), p .1), λ p. (from-host (p .0), p .1))) (no-line 8 refl);
-    no-other = subst (λ (n : ℕ). (n ≡ 0) ⊎ OneOf n solveCauses) (sym back-number) (judges .no-other);
+    no-other =
+        subst (λ (n : ℕ). (n ≡ 0) ⊎ OneOf n hostCauses) (sym back-number)
+        (⊎-elim inl (λ m. inr (not-letters (r .answer .number) refl m)) (judges .no-other));
     lined =
         subst (λ (n : ℕ). (asOne (r .answer .number) (r .answer .line) % refusalUnit ≡ 0 → ⊥) ↔ OneOf n lineCauses) (sym back-number)
         (subst (λ (l : ℕ). (l ≡ 0 → ⊥) ↔ OneOf (r .answer .number) lineCauses) (sym back-line) (judges .lined));
     line = omega (arith, ranges .1, back-line);
     kept = λ h. as-it-was (λ z. h (ap₂ asOne z (no-line 0 refl z)));
-    past = solve-past fold folding t k own .listing;
+    past = solve-past table t k own .listing;
   }
 
   -- 0 is returned only where nothing is refused
-  pub none-refused : hostCall fold t k old .returned ≡ 0 → listCall fold t k old .number ≡ 0
+  pub none-refused : hostCall table t k old .returned ≡ 0 → listCall table t k old .number ≡ 0
   unfolding hostCall listCall
   none-refused z = same-one (r .answer .number) (r .answer .line) 0 0 (omega (arith, ranges .1)) (omega arith) z .0
 
-  pub call-judges : CallJudges fold t k old (hostCall fold t k old)
+  pub call-judges : CallJudges fold t k old (hostCall table t k old)
   call-judges = subst (CallJudges fold t k old) (sym call-is) seen-judges

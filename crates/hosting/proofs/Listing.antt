@@ -7,7 +7,8 @@ use native.Mathlib.Omega.{arith}
 use lib.ListN.{length, getD}
 use Rattle.program.specs.System.{folded, roundsOf}
 use Rattle.program.specs.Standard.{standard}
-use Rattle.grammar.specs.Bytes.{Bytes, Folding}
+use Rattle.grammar.specs.Bytes.{Bytes, letters}
+use Rattle.grammar.specs.Letters.{FoldTable}
 use Rattle.tables.specs.Numbering.{place, namesOf, programOf}
 use Rattle.tables.specs.Areas.{lookUp}
 use Rattle.tables.proofs.Numbering.{numbers}
@@ -24,25 +25,27 @@ use Rattle.hosting.specs.Call.{called, hostCall}
 use Rattle.hosting.specs.Claims.{CallLists}
 use Rattle.hosting.proofs.Judging.{call-is, none-refused}
 
-module _ (fold : ℕ → ℕ) (folding : Folding fold) (t : Bytes) (k : ℕ) (old : Bytes)
-    (z : solveCall fold t k (ownAreas old) .answer .number ≡ 0) where
+module _ (table : List ℕ) (t : Bytes) (k : ℕ) (old : Bytes) (z : solveCall table t k (ownAreas old) .answer .number ≡ 0) where
+  abbrev fold : ℕ → ℕ
+  fold = letters table
+
   abbrev own : SolveAreas
   own = ownAreas old
 
   abbrev r : SolveOutcome
-  r = solveCall fold t k own
+  r = solveCall table t k own
 
-  s : Solved fold t k own
-  s = solved-of fold folding t k own z
+  s : Solved table t k own
+  s = solved-of table t k own z
 
   list : Lists r k old
-  list = solve-lists fold folding t k own z
+  list = solve-lists table t k own z
 
   holds : SolveHolds fold t r
-  holds = solve-holds fold folding t k own z
+  holds = solve-holds table t k own z
 
   rounds : SolveRounds (s .cs) k r
-  rounds = solve-rounds fold folding t k own (s .cs) (s .book) z
+  rounds = solve-rounds table t k own (s .cs) (s .book) z
 
   abbrev ns : List Bytes
   ns = namesOf (s .cs)
@@ -63,7 +66,7 @@ module _ (fold : ℕ → ℕ) (folding : Folding fold) (t : Bytes) (k : ℕ) (ol
       ap (λ (x : SolveOutcome). x .areas .tables .spellings) (s .is) in
       ap (place ns)
       (w .2 ∙ ap₂ (λ (a : Bytes) (n : ℕ). lookUp a n (list .numbers i)) tables (rounds .names)
-      ∙ look-up-read fold folding t (s .cs) (s .reads) (own .tables) (s .range .0 .spellings) (list .numbers i) low)
+      ∙ look-up-read fold (s .folding) t (s .cs) (s .reads) (own .tables) (s .range .0 .0 .spellings) (list .numbers i) low)
       ∙ numbers (s .cs) .number (list .numbers i) low
 
   seen-lists : CallLists fold t k old (called (seen r))
@@ -83,8 +86,8 @@ module _ (fold : ℕ → ℕ) (folding : Folding fold) (t : Bytes) (k : ℕ) (ol
   }
 
 -- the same of the call, by the number that it returns
-pub call-lists : (fold : ℕ → ℕ) → Folding fold → (t : Bytes) (k : ℕ) (old : Bytes) → hostCall fold t k old .returned ≡ 0
-    → CallLists fold t k old (hostCall fold t k old)
+pub call-lists : (table : List ℕ) → FoldTable table → (t : Bytes) (k : ℕ) (old : Bytes) → hostCall table t k old .returned ≡ 0
+    → CallLists (letters table) t k old (hostCall table t k old)
 unfolding listCall
-call-lists fold folding t k old z =
-    subst (CallLists fold t k old) (sym (call-is fold folding t k old)) (seen-lists fold folding t k old (none-refused fold folding t k old z))
+call-lists table passes t k old z =
+    subst (CallLists (letters table) t k old) (sym (call-is table passes t k old)) (seen-lists table t k old (none-refused table passes t k old z))

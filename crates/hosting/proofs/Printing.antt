@@ -3,7 +3,7 @@
 use mathlib.Core.Path.{_≡_, refl, sym, ap, ap₂, _∙_}
 use mathlib.Core.Logic.{⊎-elim}
 use mathlib.Core.Bool.{true}
-use mathlib.Core.List.{[], _∷_, _++_}
+use mathlib.Core.List.{List, [], _∷_, _++_}
 use Prim.Native.Nat.{ℕ, suc, _+_, _-_, _≤_}
 use native.Mathlib.Omega.{arith}
 use lib.Dec.{eqb}
@@ -12,7 +12,9 @@ use borrow.Author.Tests.{eqb-true, eqb-false}
 use Rattle.limits.specs.Book.{folds, listingBytes}
 use Rattle.sets.proofs.Logic.{either}
 use Rattle.program.specs.System.{roundsOf, heldBy}
-use Rattle.grammar.specs.Bytes.{Bytes, Folding, bytes, lineEnd, allOf}
+use Rattle.grammar.specs.Bytes.{Bytes, Folding, bytes, lineEnd, allOf, letters, ourLetters}
+use Rattle.grammar.specs.Letters.{FoldTable, ourTable}
+use Rattle.grammar.proofs.Letters.{our-letters}
 use Rattle.grammar.specs.Grammar.{joined}
 use Rattle.grammar.proofs.Spans.{all-both}
 use Rattle.areas.specs.Area.{begun, filled, cleared}
@@ -53,6 +55,10 @@ refusal-short number line r =
     simp length-append
     (omega (arith, figures-short (suc number) number 4 (omega (arith, r .0)), figures-short (suc line) line 4 (omega (arith, r .1))))
 
+-- what is printed by our table is what is printed by our letters
+pub print-ours : (t : Bytes) {r : PrintOutcome} → r ≡ printCall (letters ourTable) t → r ≡ printCall ourLetters t
+print-ours t e = e ∙ ap (λ (f : ℕ → ℕ). printCall f t) our-letters
+
 -- what is printed lies in the area
 pub print-within : (fold : ℕ → ℕ) (t : Bytes) (n : ℕ) (area : Bytes) → record { count = n; area = area } ≡ printCall fold t → n ≤ length area
 unfolding printCall filled
@@ -65,12 +71,18 @@ print-within fold t n area e =
       length-append (printed fold t) (replicate k 0 ++ []),
     )
 
-module _ (fold : ℕ → ℕ) (folding : Folding fold) (t old : Bytes) (exact : length old ≡ listingBytes) (r : ListOutcome)
-    (e : r ≡ listCall fold t folds old) where
+module _ (table : List ℕ) (passes : FoldTable table) (t old : Bytes) (exact : length old ≡ listingBytes) (r : ListOutcome)
+    (e : r ≡ listCall table t folds old) where
+  abbrev fold : ℕ → ℕ
+  fold = letters table
+
+  abbrev folding : Folding fold
+  folding = passes .1
+
   -- no refusal: the listing
   module _ (z : r .number ≡ 0) where
     listing : Listed fold t old r
-    listing = ⊎-elim (λ (w : Refused fold t old r). absurd (w .some z)) (λ (w : Listed fold t old r). w) (way fold folding t old (omega arith) r e)
+    listing = ⊎-elim (λ (w : Refused fold t old r). absurd (w .some z)) (λ (w : Listed fold t old r). w) (way table passes t old (omega arith) r e)
 
     -- it is what is printed
     whole : printed fold t ≡ joined (listingLines (namesOf (listing .cs)) (heldBy (rowsOf (listing .cs))) folds (roundsOf (rowsOf (listing .cs))))
@@ -87,7 +99,7 @@ module _ (fold : ℕ → ℕ) (folding : Folding fold) (t old : Bytes) (exact : 
   -- a refusal: its line
   module _ (some : r .number ≡ 0 → ⊥) where
     refusal : Refused fold t old r
-    refusal = ⊎-elim (λ (w : Refused fold t old r). w) (λ (w : Listed fold t old r). absurd (some (w .none))) (way fold folding t old (omega arith) r e)
+    refusal = ⊎-elim (λ (w : Refused fold t old r). w) (λ (w : Listed fold t old r). absurd (some (w .none))) (way table passes t old (omega arith) r e)
 
     abbrev line : Bytes
     line = refusalLine (r .number) (r .line) ++ (lineEnd ∷ [])
@@ -105,7 +117,7 @@ module _ (fold : ℕ → ℕ) (folding : Folding fold) (t old : Bytes) (exact : 
         ∙ all-both nonzero (refusalLine (r .number) (r .line)) (lineEnd ∷ []) (refusal-nonzero (r .number) (r .line)) (unfold allOf nonzero in refl)
 
     line-short : length (refusalLine (r .number) (r .line)) ≤ 40
-    line-short = refusal-short (r .number) (r .line) (ranges fold folding t folds old r e)
+    line-short = refusal-short (r .number) (r .line) (ranges table t folds old r e)
 
     -- there is room for it
     pub refusal-room : length (refusalLine (r .number) (r .line)) + 1 ≤ length (r .listing)

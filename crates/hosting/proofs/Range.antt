@@ -14,14 +14,14 @@ use Rattle.limits.specs.Cause.{solveCauses}
 use Rattle.limits.proofs.Causes.{upTo, one-most}
 use Rattle.sets.proofs.Logic.{either}
 use Rattle.program.specs.Standard.{standard}
-use Rattle.grammar.specs.Bytes.{Bytes, Folding, lineEnd, colon, blank}
+use Rattle.grammar.specs.Bytes.{Bytes, Folding, letters, lineEnd, colon, blank}
 use Rattle.grammar.specs.Grammar.{Clause, RuleLine, Says, mark, joined}
 use Rattle.grammar.proofs.Spans.{all-nil}
 use Rattle.tables.specs.Numbering.{programOf}
 use Rattle.tables.specs.Reading.{Reading, read, refused, bookOf, Barred, Refusal}
 use Rattle.tables.proofs.Theorems.{judged}
-use Rattle.solving.specs.Solve.{SolveAreas, SolveOutcome, shortAreas, answerOf, solveRead, solveCall}
-use Rattle.solving.proofs.Judging.{solve-short, solve-long-text, solve-over-folds, solve-in-range}
+use Rattle.solving.specs.Solve.{SolveAreas, SolveOutcome, answerOf, solveRead, solveCall}
+use Rattle.solving.proofs.Judging.{solve-cause, ready-or, solve-long-text, solve-over-folds, solve-in-range}
 use Rattle.solving.proofs.Judging.{solve-refused, solve-over-atoms, solve-solved, solve-judges}
 use Rattle.hosting.specs.List.{ListOutcome, ownAreas, listCall}
 use Rattle.hosting.specs.Call.{refusalUnit, asOne}
@@ -66,55 +66,60 @@ refused-line fold t q line (inr (inr x)) =
       barred-some fold (x .cs) (x .here) q (x .barred),
     )
 
-module _ (fold : ℕ → ℕ) (folding : Folding fold) (t : Bytes) (k : ℕ) (old : SolveAreas) where
+module _ (table : List ℕ) (t : Bytes) (k : ℕ) (old : SolveAreas) where
+  abbrev fold : ℕ → ℕ
+  fold = letters table
+
   -- no line, or that of a refusal of a text within the limit
   abbrev Lined : SolveOutcome → Type 0
   Lined r = (r .answer .line ≡ 0) ⊎ ((length t ≤ textBytes) × Refusal fold t (r .answer .number) (r .answer .line))
 
   -- by what a text within the limit comes to
-  read-lined : length t ≤ textBytes → (x : Reading) → bookOf fold t ≡ x → Lined (solveRead x k old)
+  read-lined : Folding fold → length t ≤ textBytes → (x : Reading) → bookOf fold t ≡ x → Lined (solveRead x k old)
   unfolding answerOf
-  read-lined fits (refused q line) e = subst Lined (sym (solve-refused q line k old)) (inr (fits, judged fold folding .refuses t q line .0 e))
-  read-lined fits (read cs) e =
+  read-lined folding fits (refused q line) e = subst Lined (sym (solve-refused q line k old)) (inr (fits, judged fold folding .refuses t q line .0 e))
+  read-lined folding fits (read cs) e =
       let m : ℕ = standard (programOf cs) .atoms in
       either (ltb atoms m)
       (λ u. subst Lined (sym (solve-over-atoms cs k old (ltb-true atoms m u))) (inl refl))
       (λ u. subst Lined (sym (solve-solved cs k old (ltb-false atoms m u))) (inl refl))
 
   -- the solver's line
-  pub solve-lined : Lined (solveCall fold t k old)
+  pub solve-lined : Lined (solveCall table t k old)
   solve-lined =
-      either (shortAreas old)
-      (λ s. subst Lined (sym (solve-short fold t k old s)) (inl refl))
-      (λ s.
+      ready-or table t k old
+      (λ some. subst Lined (sym (solve-cause table t k old some)) (inl refl))
+      (λ ready.
       either (ltb textBytes (length t))
-      (λ l. subst Lined (sym (solve-long-text fold t k old s (ltb-true textBytes (length t) l))) (inl refl))
+      (λ l. subst Lined (sym (solve-long-text table t k old ready (ltb-true textBytes (length t) l))) (inl refl))
       (λ l.
       let fits : length t ≤ textBytes = ltb-false textBytes (length t) l in
       either (ltb folds k)
-      (λ f. subst Lined (sym (solve-over-folds fold t k old s fits (ltb-true folds k f))) (inl refl))
-      (λ f. subst Lined (sym (solve-in-range fold t k old s fits (ltb-false folds k f))) (read-lined fits (bookOf fold t) refl))))
+      (λ f. subst Lined (sym (solve-over-folds table t k old ready fits (ltb-true folds k f))) (inl refl))
+      (λ f.
+      subst Lined (sym (solve-in-range table t k old ready fits (ltb-false folds k f))) (read-lined (ready .1 .1) fits (bookOf fold t) refl))))
 
 -- a number of at most two figures, a line of at most 16,375
 abbrev pub Ranged : ℕ → ℕ → Type 0
 Ranged number line = (number ≤ 99) × (line ≤ highestLine)
 
 -- a book listed
-pub list-range : (fold : ℕ → ℕ) → Folding fold → (t : Bytes) (k : ℕ) (listing : Bytes)
-    → Ranged (listCall fold t k listing .number) (listCall fold t k listing .line)
+pub list-range : (table : List ℕ) (t : Bytes) (k : ℕ) (listing : Bytes)
+    → Ranged (listCall table t k listing .number) (listCall table t k listing .line)
 unfolding listCall upTo
-list-range fold folding t k listing =
-    let number : ℕ = solveCall fold t k (ownAreas listing) .answer .number in
-    let line : ℕ = solveCall fold t k (ownAreas listing) .answer .line in (
-      ⊎-elim (λ (z : number ≡ 0). omega arith) (one-most 99 number solveCauses refl) (solve-judges fold folding t k (ownAreas listing) .no-other),
-      ⊎-elim (λ (z : line ≡ 0). omega arith) (λ p. omega (arith, p .0, refused-line fold t _ _ (p .1))) (solve-lined fold folding t k (ownAreas listing)),
+list-range table t k listing =
+    let number : ℕ = solveCall table t k (ownAreas listing) .answer .number in
+    let line : ℕ = solveCall table t k (ownAreas listing) .answer .line in (
+      ⊎-elim (λ (z : number ≡ 0). omega arith) (one-most 99 number solveCauses refl) (solve-judges table t k (ownAreas listing) .no-other),
+      ⊎-elim (λ (z : line ≡ 0). omega arith) (λ p. omega (arith, p .0, refused-line (letters table) t _ _ (p .1)))
+          (solve-lined table t k (ownAreas listing)),
     )
 
 -- what is listed as r says, as one number: products and sums that a machine number holds
-module _ (fold : ℕ → ℕ) (folding : Folding fold) (t : Bytes) (k : ℕ) (listing : Bytes) (r : ListOutcome) (e : r ≡ listCall fold t k listing) where
+module _ (table : List ℕ) (t : Bytes) (k : ℕ) (listing : Bytes) (r : ListOutcome) (e : r ≡ listCall table t k listing) where
   -- number and line
   pub ranges : Ranged (r .number) (r .line)
-  ranges = subst (λ (x : ListOutcome). Ranged (x .number) (x .line)) (sym e) (list-range fold folding t k listing)
+  ranges = subst (λ (x : ListOutcome). Ranged (x .number) (x .line)) (sym e) (list-range table t k listing)
 
   pub unit-fits : r .number * refusalUnit < 2 ^ 64
   unit-fits = omega (arith, ranges .0)

@@ -1,6 +1,7 @@
 -- What lies past the stated size of the listing area is neither judged nor touched by the call for C.
 -- Assumes nothing.
 use mathlib.Core.Path.{_≡_, ap, _∙_}
+use mathlib.Core.List.{List}
 use Prim.Native.Nat.{ℕ}
 use native.Mathlib.Omega.{arith}
 use lib.ListN.{take, replicate, length-replicate}
@@ -9,7 +10,7 @@ use Rattle.limits.specs.Book.{rules, rowWords, nameArea, bodyArea, rowArea, lis
 use Rattle.grammar.specs.Bytes.{Bytes}
 use Rattle.solving.specs.Solve.{SolveAreas, SolveOutcome, solveCall}
 use Rattle.solving.specs.Sizes.{cutAreas, solveWithRest}
-use Rattle.solving.proofs.Sizes.{solve-sizes}
+use Rattle.solving.proofs.Sizes.{areas-first}
 use Rattle.hosting.specs.List.{ownAreas, seen, listCall}
 use Rattle.hosting.specs.Call.{called, hostCall}
 use Rattle.hosting.specs.Claims.{callWithRest}
@@ -31,9 +32,9 @@ own-cut old i =
     }
 
 -- the call
-pub call-sizes : (fold : ℕ → ℕ) (t : Bytes) (k : ℕ) (old : Bytes)
-    → hostCall fold t k old ≡ callWithRest old (hostCall fold t k (take listingBytes old))
+pub call-sizes : (table : List ℕ) (t : Bytes) (k : ℕ) (old : Bytes)
+    → hostCall table t k old ≡ callWithRest old (hostCall table t k (take listingBytes old))
 unfolding hostCall listCall
-call-sizes fold t k old =
-    ap (λ (r : SolveOutcome). called (seen r)) (solve-sizes fold t k (ownAreas old))
-    ∙ ap (λ (o : SolveAreas). called (seen (solveWithRest (ownAreas old) (solveCall fold t k o)))) (own-cut old)
+call-sizes table t k old =
+    ap (λ (r : SolveOutcome). called (seen r)) (areas-first table t k (ownAreas old))
+    ∙ ap (λ (o : SolveAreas). called (seen (solveWithRest (ownAreas old) (solveCall table t k o)))) (own-cut old)

@@ -3,7 +3,6 @@
 -- Assumes nothing.
 use mathlib.Core.Path.{_≡_, refl, sym, ap, _∙_}
 use mathlib.Core.Logic.{_⊎_, inl, inr}
-use mathlib.Core.Bool.{false}
 use mathlib.Core.List.{List, [], _∷_}
 use Prim.Native.Nat.{ℕ, _≤_}
 use native.Mathlib.Omega.{arith}
@@ -14,7 +13,8 @@ use Rattle.limits.specs.Book.{textBytes, rules, atoms, folds, rowWords, nameAre
 use Rattle.sets.proofs.Logic.{either, pick-true, pick-false}
 use Rattle.program.specs.System.{System, folded, roundsOf, heldBy}
 use Rattle.program.specs.Standard.{standard}
-use Rattle.grammar.specs.Bytes.{Bytes, Folding}
+use Rattle.grammar.specs.Bytes.{Bytes, Folding, letters}
+use Rattle.grammar.specs.Letters.{FoldTable}
 use Rattle.grammar.specs.Grammar.{Clause}
 use Rattle.tables.specs.Numbering.{namesOf, programOf}
 use Rattle.tables.specs.Reading.{Reading, read, refused, bookOf, reading}
@@ -22,9 +22,9 @@ use Rattle.tables.proofs.Calls.{refusal-some}
 use Rattle.tables.proofs.Judging.{reading-short}
 use Rattle.tables.proofs.Theorems.{judged}
 use Rattle.solving.specs.Listing.{listingLines, listed}
-use Rattle.solving.specs.Solve.{SolveOutcome, shortAreas, answerOf, solvedAreas, solveRead, solveCall}
-use Rattle.solving.specs.SolveClaims.{SolveLong}
-use Rattle.solving.proofs.Judging.{long-areas, solve-long-text, solve-in-range, solve-refused, solve-over-atoms, solve-solved}
+use Rattle.solving.specs.Solve.{SolveOutcome, answerOf, solvedAreas, solveRead, solveCall}
+use Rattle.solving.specs.SolveClaims.{SolveLong, SolveReady}
+use Rattle.solving.proofs.Judging.{solve-long-text, solve-in-range, solve-refused, solve-over-atoms, solve-solved}
 use Rattle.hosting.specs.List.{ListOutcome, ownAreas, seen, listCall}
 use Rattle.hosting.specs.Print.{refusalLine, printedLines}
 
@@ -66,10 +66,16 @@ own-long old l = record {
   listing = l;
 }
 
-module _ (fold : ℕ → ℕ) (folding : Folding fold) (t old : Bytes) (long : listingBytes ≤ length old) where
-  -- the solver's test of lengths passes
-  enough : shortAreas (ownAreas old) ≡ false
-  enough = long-areas (ownAreas old) (own-long old long)
+module _ (table : List ℕ) (passes : FoldTable table) (t old : Bytes) (long : listingBytes ≤ length old) where
+  abbrev fold : ℕ → ℕ
+  fold = letters table
+
+  abbrev folding : Folding fold
+  folding = passes .1
+
+  -- what the solver judges first passes
+  enough : SolveReady table (ownAreas old)
+  enough = (own-long old long, passes)
 
   -- the solver refuses
   way-refused : (r : ListOutcome) (number line : ℕ) → r ≡ record { number = number; line = line; listing = old } → (number ≡ 0 → ⊥)
@@ -81,17 +87,17 @@ module _ (fold : ℕ → ℕ) (folding : Folding fold) (t old : Bytes) (long : l
         lines = q ∙ ap (λ (x : ListOutcome). refusalLine (x .number) (x .line) ∷ []) (sym e);
       })
 
-  module _ (r : ListOutcome) (e : r ≡ listCall fold t folds old) where
+  module _ (r : ListOutcome) (e : r ≡ listCall table t folds old) where
     -- by the solver's outcome
-    r-is : (s : SolveOutcome) → solveCall fold t folds (ownAreas old) ≡ s → r ≡ seen s
+    r-is : (s : SolveOutcome) → solveCall table t folds (ownAreas old) ≡ s → r ≡ seen s
     unfolding listCall
     r-is s q = e ∙ ap seen q
 
     -- a text within the limit, by what it comes to
     module _ (fits : length t ≤ textBytes) where
-      read-is : (x : Reading) → bookOf fold t ≡ x → solveCall fold t folds (ownAreas old) ≡ solveRead x folds (ownAreas old)
+      read-is : (x : Reading) → bookOf fold t ≡ x → solveCall table t folds (ownAreas old) ≡ solveRead x folds (ownAreas old)
       read-is x b =
-          solve-in-range fold t folds (ownAreas old) enough fits (omega arith) ∙ ap (λ (y : Reading). solveRead y folds (ownAreas old)) b
+          solve-in-range table t folds (ownAreas old) enough fits (omega arith) ∙ ap (λ (y : Reading). solveRead y folds (ownAreas old)) b
 
       lines-are : (x : Reading) → bookOf fold t ≡ x → printedLines (reading fold t) ≡ printedLines x
       lines-are x b = ap printedLines (reading-short fold t fits ∙ b)
@@ -124,6 +130,6 @@ module _ (fold : ℕ → ℕ) (folding : Folding fold) (t old : Bytes) (long : l
     way =
         either (ltb textBytes (length t))
         (λ l.
-        way-refused r 2 0 (r-is _ (solve-long-text fold t folds (ownAreas old) enough (ltb-true textBytes (length t) l))) (λ z. omega arith)
+        way-refused r 2 0 (r-is _ (solve-long-text table t folds (ownAreas old) enough (ltb-true textBytes (length t) l))) (λ z. omega arith)
         (ap printedLines (pick-true (refused 2 0) (bookOf fold t) l)))
         (λ l. by-reading (ltb-false textBytes (length t) l) (bookOf fold t) refl)

@@ -1,5 +1,6 @@
 -- The call for C. Document 01: "it gets 0, or refusal × 65,536 + line".
 -- Assumes nothing.
+use mathlib.Core.List.{List}
 use Prim.Native.Nat.{ℕ, _+_, _*_}
 use Rattle.grammar.specs.Bytes.{Bytes}
 use Rattle.hosting.specs.List.{ListOutcome, listCall}
@@ -21,5 +22,5 @@ abbrev pub called : ListOutcome → CallOutcome
 called r = record { returned = asOne (r .number) (r .line); listing = r .listing }
 
 -- the call on the text t, k folds and a listing area
-unfoldable pub hostCall : (ℕ → ℕ) → Bytes → ℕ → Bytes → CallOutcome
-hostCall fold t k listing = called (listCall fold t k listing)
+unfoldable pub hostCall : List ℕ → Bytes → ℕ → Bytes → CallOutcome
+hostCall table t k listing = called (listCall table t k listing)

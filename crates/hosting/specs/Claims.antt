@@ -1,6 +1,6 @@
 -- Demands 1 and 3 as a host sees them: the number returned, the bytes of its listing area, and what the lister prints. Proved in
--- proofs/Theorems.antt, for any folding of names that obeys the rule, any text and a listing area with any old contents: the call for any fold
--- number and an area of any length, what is printed by the call with 8 folds and an area of the stated size.
+-- proofs/Theorems.antt, for any folding table that passes, any text and a listing area with any old contents: the call for any fold number and an
+-- area of any length, what is printed by the call with 8 folds and an area of the stated size. The code goes by our table, which passes.
 -- Assumes nothing.
 use mathlib.Core.Path.{_≡_}
 use mathlib.Core.Logic.{_⊎_, _↔_}
@@ -9,10 +9,10 @@ use mathlib.Core.List.{List, [], _∷_, _++_}
 use Prim.Native.Nat.{ℕ, _-_, _/_, _%_, _≤_, _<_}
 use lib.ListN.{length, getD, take, drop}
 use Rattle.limits.specs.Book.{textBytes, atoms, folds, listingBytes}
-use Rattle.limits.specs.Cause.{OneOf, lineCauses, textCauses, solveCauses}
+use Rattle.limits.specs.Cause.{OneOf, lineCauses, textCauses, hostCauses}
 use Rattle.program.specs.System.{folded, roundsOf}
 use Rattle.program.specs.Standard.{standard}
-use Rattle.grammar.specs.Bytes.{Bytes, allOf, Among}
+use Rattle.grammar.specs.Bytes.{Bytes, allOf, Among, letters}
 use Rattle.grammar.specs.Grammar.{Clause, joined, Unbroken}
 use Rattle.tables.specs.Numbering.{place, namesOf, programOf}
 use Rattle.tables.specs.Reading.{Book, Refusal}
@@ -42,8 +42,8 @@ pub record CallJudges (fold : ℕ → ℕ) (t : Bytes) (k : ℕ) (old : Bytes) (
   -- those of a text with their line, as the grammar says
   pub text : (q line : ℕ) → OneOf q textCauses → line < refusalUnit → (r .returned ≡ asOne q line) ↔ (HostRange t k old × Refusal fold t q line)
   pub over-atoms : (r .returned ≡ asOne 8 0) ↔ (HostRange t k old × ((cs : List Clause) × Book fold t cs × (atoms < standard (programOf cs) .atoms)))
-  -- 0 and these are all its numbers: 10, 11 and 12 cannot occur
-  pub no-other : (r .returned / refusalUnit ≡ 0) ⊎ OneOf (r .returned / refusalUnit) solveCauses
+  -- 0 and these are all its numbers: 10, 11, 12, 20 and 21 cannot occur
+  pub no-other : (r .returned / refusalUnit ≡ 0) ⊎ OneOf (r .returned / refusalUnit) hostCauses
   -- a line comes with exactly these, and is at most 16,375
   pub lined : (r .returned % refusalUnit ≡ 0 → ⊥) ↔ OneOf (r .returned / refusalUnit) lineCauses
   pub line : r .returned % refusalUnit ≤ highestLine
@@ -80,9 +80,9 @@ abbrev pub callWithRest : Bytes → CallOutcome → CallOutcome
 callWithRest old r = record { returned = r .returned; listing = r .listing ++ drop listingBytes old }
 
 -- all together
-pub record Hosts (fold : ℕ → ℕ) : Type 0 where
-  pub judges : (t : Bytes) (k : ℕ) (old : Bytes) → CallJudges fold t k old (hostCall fold t k old)
-  pub lists : (t : Bytes) (k : ℕ) (old : Bytes) → hostCall fold t k old .returned ≡ 0 → CallLists fold t k old (hostCall fold t k old)
-  pub prints : (t old : Bytes) → length old ≡ listingBytes → Prints fold t (hostCall fold t folds old)
+pub record Hosts (table : List ℕ) : Type 0 where
+  pub judges : (t : Bytes) (k : ℕ) (old : Bytes) → CallJudges (letters table) t k old (hostCall table t k old)
+  pub lists : (t : Bytes) (k : ℕ) (old : Bytes) → hostCall table t k old .returned ≡ 0 → CallLists (letters table) t k old (hostCall table t k old)
+  pub prints : (t old : Bytes) → length old ≡ listingBytes → Prints (letters table) t (hostCall table t folds old)
   -- what lies past the stated size is neither judged nor touched
-  pub sizes : (t : Bytes) (k : ℕ) (old : Bytes) → hostCall fold t k old ≡ callWithRest old (hostCall fold t k (take listingBytes old))
+  pub sizes : (t : Bytes) (k : ℕ) (old : Bytes) → hostCall table t k old ≡ callWithRest old (hostCall table t k (take listingBytes old))

@@ -1,6 +1,7 @@
 -- A book listed: the solver lent a listing area, all other areas its own. Document 01: "calls with text bytes, a fold number and a listing
 -- area (the other areas are the call's own)".
 -- Assumes nothing.
+use mathlib.Core.List.{List}
 use Prim.Native.Nat.{ℕ}
 use Rattle.grammar.specs.Bytes.{Bytes}
 use Rattle.solving.specs.Solve.{SolveAreas, SolveOutcome, solveCall}
@@ -20,6 +21,6 @@ pub record ListOutcome : Type 0 where
 abbrev pub seen : SolveOutcome → ListOutcome
 seen r = record { number = r .answer .number; line = r .answer .line; listing = r .areas .listing }
 
--- the book t listed after k folds
-unfoldable pub listCall : (ℕ → ℕ) → Bytes → ℕ → Bytes → ListOutcome
-listCall fold t k listing = seen (solveCall fold t k (ownAreas listing))
+-- the book t listed after k folds, by the letters of a table
+unfoldable pub listCall : List ℕ → Bytes → ℕ → Bytes → ListOutcome
+listCall table t k listing = seen (solveCall table t k (ownAreas listing))

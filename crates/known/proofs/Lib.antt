@@ -1,3 +1,4 @@
+pub mod Old
 pub mod Plain
 pub mod Settled
 pub mod Edges

@@ -4,9 +4,8 @@
 -- Assumes nothing.
 use mathlib.Core.Bool.{Bool}
 use mathlib.Core.List.{List, [], _∷_}
-use Rattle.solving.specs.Plain.{plainCall}
 use Rattle.known.specs.Known.{Known, rounds, counts, has, lists, for, book, zeroToEight}
-use Rattle.known.specs.Test.{oldAreas, allAgree}
+use Rattle.known.specs.Test.{oldAreas, ourCalls, allAgree}
 
 abbrev pub books : List Known
 books =
@@ -29,4 +28,4 @@ books =
 
 -- the table's test: by the solver, and by the plain route's call
 unfoldable pub allSettled : Bool
-allSettled = allAgree plainCall oldAreas books
+allSettled = allAgree (ourCalls oldAreas) (oldAreas .model) books

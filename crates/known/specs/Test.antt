@@ -8,14 +8,15 @@ use lib.Dec.{eqb}
 use lib.ListN.{length, take, replicate}
 use Rattle.limits.specs.Book.{rowWords, listingBytes}
 use Rattle.sets.specs.Set.{Set, members}
-use Rattle.grammar.specs.Bytes.{Bytes, bytes, ourLetters}
+use Rattle.grammar.specs.Bytes.{Bytes, bytes}
+use Rattle.grammar.specs.Letters.{ourTable}
 use Rattle.grammar.specs.Lines.{run, lines}
 use Rattle.tables.specs.Numbering.{sameBytes, place}
 use Rattle.areas.specs.Area.{filled}
 use Rattle.tables.specs.Areas.{RuleTables, Counts, Outcome, rulesOf, nonzero, lookUp, readCall}
 use Rattle.systems.specs.Rows.{rowIn}
 use Rattle.systems.specs.Rounds.{modelIn}
-use Rattle.solving.specs.Plain.{PlainOutcome}
+use Rattle.solving.specs.Plain.{PlainOutcome, plainCall}
 use Rattle.solving.specs.Solve.{SolveAreas, SolveOutcome, solveCall}
 use Rattle.solving.specs.Stated.{statedAreas}
 use Rattle.known.specs.Known.{Fact, rounds, counts, has, lists, Runs, Known}
@@ -86,27 +87,38 @@ saysAll r (x ∷ xs) = says r x && saysAll r xs
 unfoldable pub answers : List Bytes → List Fact → SolveOutcome → Bool
 answers xs facts r = holds xs r && saysAll r facts
 
--- and after each of the fold numbers
-unfoldable pub answersEach : SolveAreas → Bytes → List Bytes → List Fact → List ℕ → Bool
-answersEach old t xs facts [] = true
-answersEach old t xs facts (k ∷ ks) = answers xs facts (solveCall ourLetters t k old) && answersEach old t xs facts ks
+-- and after each of the fold numbers, by what the solver answers and leaves for each
+unfoldable pub answersEach : (ℕ → SolveOutcome) → List Bytes → List Fact → List ℕ → Bool
+answersEach solves xs facts [] = true
+answersEach solves xs facts (k ∷ ks) = answers xs facts (solves k) && answersEach solves xs facts ks
 
 -- all runs
-unfoldable pub answersAll : SolveAreas → Bytes → List Bytes → List Runs → Bool
-answersAll old t xs [] = true
-answersAll old t xs (r ∷ rs) = answersEach old t xs (r .facts) (r .folds) && answersAll old t xs rs
+unfoldable pub answersAll : (ℕ → SolveOutcome) → List Bytes → List Runs → Bool
+answersAll solves xs [] = true
+answersAll solves xs (r ∷ rs) = answersEach solves xs (r .facts) (r .folds) && answersAll solves xs rs
 
 -- the reader accepts the text, and the plain route answers as said
 unfoldable pub answersPlain : Route → List Bytes → Outcome → List ℕ → Bool
 answersPlain plain xs o model = eqb (o .answer .number) 0 && plainHolds xs o (plainOn plain o model)
 
--- the book answers as said, by the solver under each fold number and by the plain route
-unfoldable pub agrees : Route → SolveAreas → Known → Bool
-agrees plain old b =
-    answersAll old (bytes (b .text)) (map bytes (b .held)) (b .runs)
-    && answersPlain plain (map bytes (b .held)) (readCall ourLetters (bytes (b .text)) (old .tables)) (old .model)
+-- The calls that are tried, in given areas: the solver for a text and a fold number, the reader for a text, and the plain route.
+pub record Calls : Type 0 where
+  pub solves : Bytes → ℕ → SolveOutcome
+  pub reads : Bytes → Outcome
+  pub plain : Route
+
+-- the engine's, lent our table
+abbrev pub ourCalls : SolveAreas → Calls
+ourCalls old =
+    record { solves = λ t k. solveCall ourTable t k old; reads = λ t. readCall ourTable t (old .tables); plain = plainCall }
+
+-- the book answers as said, by the solver under each fold number and by the plain route with that model area
+unfoldable pub agrees : Calls → List ℕ → Known → Bool
+agrees calls model b =
+    answersAll (calls .solves (bytes (b .text))) (map bytes (b .held)) (b .runs)
+    && answersPlain (calls .plain) (map bytes (b .held)) (calls .reads (bytes (b .text))) model
 
 -- every book of a table
-unfoldable pub allAgree : Route → SolveAreas → List Known → Bool
-allAgree plain old [] = true
-allAgree plain old (b ∷ bs) = agrees plain old b && allAgree plain old bs
+unfoldable pub allAgree : Calls → List ℕ → List Known → Bool
+allAgree calls model [] = true
+allAgree calls model (b ∷ bs) = agrees calls model b && allAgree calls model bs

@@ -10,7 +10,7 @@ ghost use lib.ListN.{length, getD, set};
 ghost use Rattle.limits.specs.Book.{names, nameBytes, nameArea};
 ghost use Rattle.areas.specs.Area.{put};
 ghost use Rattle.grammar.specs.Bytes.{letters};
-ghost use Rattle.scan.specs.Fold.{FoldTable};
+ghost use Rattle.grammar.specs.Letters.{FoldTable};
 ghost use Rattle.scan.specs.Hash.{buckets, hashOf};
 ghost use Rattle.tables.specs.Numbering.{sameBytes, place};
 ghost use Rattle.tables.specs.Areas.{nameAt, namesIn, padded};

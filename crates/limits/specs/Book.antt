@@ -1,4 +1,4 @@
--- Every limit and size of document 01 ("Limits and areas"), once. The code's constants are proved equal to these.
+-- Every limit and size of document 01 ("Limits and areas"), and the size of a folding table, once. The code's constants are proved equal to these.
 -- Assumes nothing.
 use Prim.Native.Nat.{ℕ, _*_}
 
@@ -35,6 +35,10 @@ rowWords = 4
 
 abbrev pub bodyWords : ℕ
 bodyWords = 2
+
+-- bytes of a folding table: an entry for each byte value
+abbrev pub letterBytes : ℕ
+letterBytes = 256
 
 -- bytes of a listing
 abbrev pub listingBytes : ℕ

@@ -1,4 +1,4 @@
--- "Refused" of document 01: which numbers there are, as lists. A new cause is one entry of one list here; the others follow.
+-- "Refused" of document 01, and the new numbers of document 02: which there are, as lists. A new cause is one entry of one list here; the others follow.
 -- Assumes nothing.
 use mathlib.Core.Path.{_≡_}
 use mathlib.Core.Logic.{_⊎_}
@@ -30,9 +30,13 @@ wholeCauses = 3 ∷ 4 ∷ []
 abbrev pub textCauses : List ℕ
 textCauses = wholeCauses ++ lineCauses
 
--- "all as it was", for the reader: an area too short, a text too long, the text as a whole
+-- what is judged first by a call that is lent a folding table: an area too short, a reserved byte that has an entry, an entry that is not its own
+abbrev pub letterCauses : List ℕ
+letterCauses = 1 ∷ 20 ∷ 21 ∷ []
+
+-- "all as it was", for the reader: these, a text too long, the text as a whole
 abbrev pub keptCauses : List ℕ
-keptCauses = 1 ∷ 2 ∷ wholeCauses
+keptCauses = letterCauses ++ (2 ∷ wholeCauses)
 
 -- the reader's: those, and the causes of a line
 abbrev pub readCauses : List ℕ
@@ -50,9 +54,14 @@ atomCauses = 8 ∷ []
 abbrev pub solveCauses : List ℕ
 solveCauses = (solveKeptCauses ++ lineCauses) ++ atomCauses
 
--- the writer's: an area too short, tables ill formed, a written text too long
+-- those of the call for C and of the lister, which judge no folding table: an area too short, a text too long, over 8 folds, the causes of a text,
+-- over 256 atoms
+abbrev pub hostCauses : List ℕ
+hostCauses = 1 ∷ 2 ∷ 9 ∷ (textCauses ++ atomCauses)
+
+-- the writer's: what is judged first, tables ill formed, a written text too long
 abbrev pub writeCauses : List ℕ
-writeCauses = 1 ∷ 10 ∷ 12 ∷ []
+writeCauses = letterCauses ++ (10 ∷ 12 ∷ [])
 
 -- standardising's: an area too short, tables ill formed, over 256 atoms
 abbrev pub standardCauses : List ℕ

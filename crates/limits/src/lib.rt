@@ -2,7 +2,7 @@
 ghost use mathlib.Core.Path.{_≡_};
 ghost use Prim.Native.Nat.{_*_, _/_, _%_, _≤_};
 ghost use Rattle.limits.specs.Book.{textBytes, names, nameBytes, rules, atoms, folds, wordBits};
-ghost use Rattle.limits.specs.Book.{rowWords, bodyWords, listingBytes, nameArea, bodyArea, rowArea};
+ghost use Rattle.limits.specs.Book.{rowWords, bodyWords, letterBytes, listingBytes, nameArea, bodyArea, rowArea};
 
 pub struct Book;
 
@@ -25,6 +25,8 @@ impl Book {
 
     pub const BODY_WORDS: usize = 2;
 
+    pub const LETTER_BYTES: usize = 256;
+
     pub const LISTING_BYTES: usize = 4608;
 
     pub const NAME_AREA: usize = Book::NAMES * Book::NAME_BYTES;
@@ -44,6 +46,7 @@ impl Book {
         ensures word { λ r. do ⌜ (← ⟦Book::WORD_BITS⟧ .entry) ≡ wordBits ⌝ }
         ensures row { λ r. do ⌜ (← ⟦Book::ROW_WORDS⟧ .entry) ≡ rowWords ⌝ }
         ensures body { λ r. do ⌜ (← ⟦Book::BODY_WORDS⟧ .entry) ≡ bodyWords ⌝ }
+        ensures letters { λ r. do ⌜ (← ⟦Book::LETTER_BYTES⟧ .entry) ≡ letterBytes ⌝ }
         ensures listing { λ r. do ⌜ (← ⟦Book::LISTING_BYTES⟧ .entry) ≡ listingBytes ⌝ }
         ensures spellings { λ r. do ⌜ (← ⟦Book::NAME_AREA⟧ .entry) ≡ nameArea ⌝ }
         ensures bodies { λ r. do ⌜ (← ⟦Book::BODY_AREA⟧ .entry) ≡ bodyArea ⌝ }
@@ -89,7 +92,7 @@ impl Book {
     }
 }
 
-// The numbers under which calls refuse, as document 01 has them.
+// The numbers under which calls refuse, as documents 01 and 02 have them.
 pub struct Refusal;
 
 impl Refusal {
@@ -117,7 +120,11 @@ impl Refusal {
 
     pub const LONG_WRITTEN: usize = 12;
 
-    // Does nothing: its contract ties each constant to its number in document 01.
+    pub const RESERVED_BYTE: usize = 20;
+
+    pub const UNSETTLED_ENTRY: usize = 21;
+
+    // Does nothing: its contract ties each constant to its number there.
     pub fn numbers()
         ensures area { λ r. do ⌜ (← ⟦Refusal::SHORT_AREA⟧ .entry) ≡ 1 ⌝ }
         ensures text { λ r. do ⌜ (← ⟦Refusal::LONG_TEXT⟧ .entry) ≡ 2 ⌝ }
@@ -131,5 +138,7 @@ impl Refusal {
         ensures formed { λ r. do ⌜ (← ⟦Refusal::ILL_FORMED⟧ .entry) ≡ 10 ⌝ }
         ensures start { λ r. do ⌜ (← ⟦Refusal::START_LOST⟧ .entry) ≡ 11 ⌝ }
         ensures written { λ r. do ⌜ (← ⟦Refusal::LONG_WRITTEN⟧ .entry) ≡ 12 ⌝ }
+        ensures reserved { λ r. do ⌜ (← ⟦Refusal::RESERVED_BYTE⟧ .entry) ≡ 20 ⌝ }
+        ensures unsettled { λ r. do ⌜ (← ⟦Refusal::UNSETTLED_ENTRY⟧ .entry) ≡ 21 ⌝ }
     {}
 }

@@ -1,19 +1,19 @@
 -- The whole call: its refusals, and what the lines and the clearing leave.
 -- Assumes nothing.
 use mathlib.Core.Path.{_≡_, refl, sym, ap, ap₂, _∙_, subst}
-use mathlib.Core.Bool.{true}
-use mathlib.Core.Logic.{_⊎_, ⊎-elim}
+use mathlib.Core.Bool.{Bool, true, _||_}
 use mathlib.Core.List.{List, [], _++_, map}
 use Prim.Native.Nat.{ℕ, _-_, _*_, _≤_, _<_}
 use native.Mathlib.Omega.{arith}
 use lib.Dec.{eqb, ltb}
 use lib.ListN.{length, take, drop, replicate, length-map}
-use borrow.Author.Tests.{lt-ltb, eqb-true, eqb-false, ne-eqb}
+use borrow.Author.Tests.{lt-ltb, le-ltb, eqb-true, eqb-false, eq-eqb, ne-eqb}
 use Rattle.limits.specs.Book.{textBytes, names, nameBytes, rules, nameArea, bodyWords, bodyArea}
 use Rattle.sets.proofs.Logic.{either, or-left, or-right, pick-true, pick-false}
 use Rattle.program.specs.Program.{Rule}
 use Rattle.grammar.specs.Bytes.{Bytes, letters}
 use Rattle.grammar.specs.Grammar.{Clause}
+use Rattle.grammar.specs.Letters.{FoldTable, lettersCause}
 use Rattle.scan.specs.Hash.{buckets}
 use Rattle.tables.specs.Numbering.{namesOf, numbered}
 use Rattle.tables.specs.Reading.{Reading, read, refused, marked, ended, bookOf, reading}
@@ -22,10 +22,12 @@ use Rattle.areas.specs.Area.{begun, filled, cleared}
 use Rattle.tables.proofs.Numbering.{names-none, heads-length, bodies-length}
 use Rattle.tables.proofs.Judging.{book-lines, reading-long, reading-short}
 use Rattle.areas.proofs.Begun.{begun-none, used}
-use Rattle.tables.proofs.Encoding.{length-nameRows, not-short}
+use Rattle.tables.proofs.Encoding.{length-nameRows, long-enough}
+use Rattle.tables.proofs.Calls.{read-pass}
 use Rattle.lexicon.proofs.Entering.{indexed-none}
 use Rattle.clause.specs.Found.{lexiconOf, Named}
 use Rattle.reader.specs.declared.Answer.{Answer}
+use Rattle.reader.specs.Short.{shortRead}
 use Rattle.reader.specs.State.{Tables, tablesAt, Booked, Stayed, Lined, allLines}
 
 -- what the call answers and leaves
@@ -45,49 +47,68 @@ unfolding refusal
 refusal-none k old = ap (λ (a : Areas). record { answer = record { number = k; line = 0; names = 0; rules = 0 }; areas = a })
     (pick-true old (filledWith [] [] old) refl)
 
--- The call: its areas are too short, the text is too long, or it is read.
-module _ (fold : ℕ → ℕ) (t area : Bytes) (heads bodies : List ℕ) where
-  shorter : (length area < nameArea) ⊎ ((length heads < rules) ⊎ (length bodies < bodyArea)) → short (lent area heads bodies) ≡ true
-  unfolding short
-  shorter =
-      ⊎-elim (λ (l : length area < nameArea). or-left _ (lt-ltb (length area) nameArea l))
-      (⊎-elim (λ (l : length heads < rules). or-right (ltb (length area) nameArea) (or-left _ (lt-ltb (length heads) rules l)))
-      (λ (l : length bodies < bodyArea).
-      or-right (ltb (length area) nameArea) (or-right (ltb (length heads) rules) (lt-ltb (length bodies) bodyArea l))))
+-- a refusal before any line, where the text comes to that
+pub refuses : (area : Bytes) (heads bodies : List ℕ) (k : ℕ) (r : Answer) → r ≡ record { number = k; line = 0; names = 0; rules = 0 }
+    → (x : Reading) → x ≡ refused k 0 → gives r area heads bodies ≡ outcome x (lent area heads bodies)
+unfolding outcome
+refuses area heads bodies k r e x q =
+    ap (λ (x : Answer). gives x area heads bodies) e ∙ sym (refusal-none k (lent area heads bodies))
+    ∙ sym (ap (λ (y : Reading). outcome y (lent area heads bodies)) q)
 
-  pub call-short : (r : Answer) → r ≡ record { number = 1; line = 0; names = 0; rules = 0 }
-      → (length area < nameArea) ⊎ ((length heads < rules) ⊎ (length bodies < bodyArea))
-      → gives r area heads bodies ≡ readCall fold t (lent area heads bodies)
+-- areas of s, h and b entries: the first that is too short settles it
+module _ (s h b : ℕ) where
+  pub lack-names : s < nameArea → true ≡ shortRead s h b
+  unfolding shortRead
+  lack-names l = sym (or-left (ltb h rules || ltb b bodyArea) (lt-ltb s nameArea l))
+
+  pub lack-heads : h < rules → true ≡ shortRead s h b
+  unfolding shortRead
+  lack-heads l = sym (or-right (ltb s nameArea) (or-left (ltb b bodyArea) (lt-ltb h rules l)))
+
+  -- else the bodies decide
+  pub lack-bodies : nameArea ≤ s → rules ≤ h → ltb b bodyArea ≡ shortRead s h b
+  unfolding shortRead
+  lack-bodies p q = sym (rw (le-ltb s nameArea p, le-ltb h rules q))
+
+-- The call: an area is too short or the table is refused, the text is too long, or it is read. The cause k is judged by the lengths.
+module _ (table t area : Bytes) (heads bodies : List ℕ) (low : Bool) (p : low ≡ shortRead (length area) (length heads) (length bodies))
+    (k : ℕ) (q : k ≡ lettersCause low table) where
+  abbrev was : Areas
+  was = lent area heads bodies
+
+  -- what is judged first
+  abbrev due : ℕ
+  due = lettersCause (short was) table
+
+  judged : k ≡ due
+  unfolding short shortRead
+  judged = q ∙ ap (λ (b : Bool). lettersCause b table) p
+
+  pub call-cause : (r : Answer) → r ≡ record { number = k; line = 0; names = 0; rules = 0 } → (k ≡ 0 → ⊥)
+      → gives r area heads bodies ≡ readCall table t was
   unfolding readCall
-  call-short r e s =
-      ap (λ (x : Answer). gives x area heads bodies) e ∙ sym (refusal-none 1 (lent area heads bodies))
-      ∙ sym (pick-true (refusal 1 0 (lent area heads bodies)) (outcome (reading fold t) (lent area heads bodies)) (shorter s))
+  call-cause r e some =
+      ap (λ (x : Answer). gives x area heads bodies) e ∙ sym (refusal-none k was) ∙ ap (λ (i : ℕ). refusal i 0 was) judged
+      ∙ sym (pick-false (outcome (reading (letters table) t) was) (refusal due 0 was) (ne-eqb due 0 (λ z. some (judged ∙ z))))
 
-  -- refused before any line, where the text comes to that
-  pub refuses : (k : ℕ) (r : Answer) → r ≡ record { number = k; line = 0; names = 0; rules = 0 } → (x : Reading) → x ≡ refused k 0
-      → gives r area heads bodies ≡ outcome x (lent area heads bodies)
-  unfolding outcome
-  refuses k r e x q =
-      ap (λ (x : Answer). gives x area heads bodies) e ∙ sym (refusal-none k (lent area heads bodies))
-      ∙ sym (ap (λ (y : Reading). outcome y (lent area heads bodies)) q)
+  module _ (z : k ≡ 0) where
+    -- the areas are long enough and the table passes
+    pub call-ready : (nameArea ≤ length area) × (rules ≤ length heads) × (bodyArea ≤ length bodies) × FoldTable table
+    call-ready =
+        let ready = read-pass table was .0 (sym judged ∙ z) in
+        let long = long-enough was (ready .0) in
+        (long .0, long .1, long .2, ready .1)
 
-  -- long enough
-  module _ (la : nameArea ≤ length area) (lh : rules ≤ length heads) (lb : bodyArea ≤ length bodies) where
-    call-is : readCall fold t (lent area heads bodies) ≡ outcome (reading fold t) (lent area heads bodies)
+    call-is : readCall table t was ≡ outcome (reading (letters table) t) was
     unfolding readCall
-    call-is =
-        pick-false (refusal 1 0 (lent area heads bodies)) (outcome (reading fold t) (lent area heads bodies)) (not-short (lent area heads bodies) la lh lb)
+    call-is = pick-true (outcome (reading (letters table) t) was) (refusal due 0 was) (eq-eqb due 0 (sym judged ∙ z))
 
     pub call-long : (r : Answer) → r ≡ record { number = 2; line = 0; names = 0; rules = 0 } → textBytes < length t
-        → gives r area heads bodies ≡ readCall fold t (lent area heads bodies)
-    call-long r e l = refuses 2 r e (reading fold t) (reading-long fold t l) ∙ sym call-is
+        → gives r area heads bodies ≡ readCall table t was
+    call-long r e l = refuses area heads bodies 2 r e (reading (letters table) t) (reading-long (letters table) t l) ∙ sym call-is
 
-    -- read by a table whose letters these are
-    pub call-read : (table : List ℕ) → letters table ≡ fold → length t ≤ textBytes → (o : Outcome)
-        → o ≡ outcome (bookOf (letters table) t) (lent area heads bodies) → o ≡ readCall fold t (lent area heads bodies)
-    call-read table same size o e =
-        e ∙ ap (λ (f : ℕ → ℕ). outcome (bookOf f t) (lent area heads bodies)) same
-        ∙ ap (λ (x : Reading). outcome x (lent area heads bodies)) (sym (reading-short fold t size)) ∙ sym call-is
+    pub call-read : length t ≤ textBytes → (o : Outcome) → o ≡ outcome (bookOf (letters table) t) was → o ≡ readCall table t was
+    call-read size o e = e ∙ ap (λ (x : Reading). outcome x was) (sym (reading-short (letters table) t size)) ∙ sym call-is
 
 -- no clauses yet
 no-rows : nameRows [] ≡ []

@@ -8,7 +8,6 @@ use rows::clear::clear_tail16;
 use rows::clear::clear_tail64;
 use scan::cursor::Cursor;
 use scan::cursor::Word;
-use scan::table::folding;
 ghost use mathlib.Core.Path.{_≡_};
 ghost use mathlib.Core.Bool.{true, false};
 ghost use mathlib.Core.List.{List, []};
@@ -16,15 +15,16 @@ ghost use Prim.Native.Nat.{_+_, _*_, _<_, _≤_};
 ghost use lib.ListN.{length, drop};
 ghost use Rattle.limits.specs.Book.{textBytes, names, nameBytes, rules, bodyWords, nameArea, bodyArea};
 ghost use Rattle.areas.specs.Area.{part, put, cleared};
-ghost use Rattle.grammar.specs.Bytes.{lineEnd, notEnd, ourLetters, letters};
+ghost use Rattle.grammar.specs.Bytes.{lineEnd, notEnd, letters};
 ghost use Rattle.grammar.specs.Grammar.{Clause};
 ghost use Rattle.grammar.specs.Lines.{starts};
-ghost use Rattle.scan.specs.Fold.{FoldTable};
+ghost use Rattle.grammar.specs.Letters.{FoldTable};
 ghost use Rattle.scan.specs.Places.{pastAt};
 ghost use Rattle.tables.specs.Reading.{marked, ended, bookOf};
 ghost use Rattle.tables.specs.Areas.{outcome, readCall};
 ghost use Rattle.clause.specs.Line.{LineEnds, formFrom};
 ghost use Rattle.clause.specs.Found.{lexiconOf, InOrder, Said};
+ghost use Rattle.reader.specs.Short.{shortRead};
 ghost use Rattle.reader.specs.State.{formAt, tablesAt, Booked, Stayed, Stepped, Lined};
 
 // What a call returns: the number of the refusal with its line, 0 for none, and how many names and rules there are.
@@ -336,24 +336,41 @@ pub fn read_formed(
     answer
 }
 
-// Reads the text into the areas.
-pub fn read(text: &[u8], spellings: &mut [u8], heads: &mut [u16], bodies: &mut [u64]) -> Answer
+// Whether an area is shorter than its stated size, by their lengths.
+fn too_short(spellings: usize, heads: usize, bodies: usize) -> bool
+    ensures { λ r. ⌜ r ≡ shortRead spellings heads bodies ⌝ }
+{
+    if spellings < Book::NAME_AREA {
+        return true;
+    }
+    if heads < Book::RULES {
+        return true;
+    }
+    bodies < Book::BODY_AREA
+}
+
+// Reads the text into the areas, by the letters of the lent table.
+pub fn read(
+    text: &[u8],
+    table: &[u8],
+    spellings: &mut [u8],
+    heads: &mut [u16],
+    bodies: &mut [u64],
+) -> Answer
     ensures { λ r. ⌜ record {
       answer = record { number = r .number; line = r .line; names = r .names; rules = r .rules };
       areas = record { spellings = now (spellings .exit); heads = now (heads .exit); bodies = now (bodies .exit) };
     }
-        ≡ readCall ourLetters (now (text .entry))
+        ≡ readCall (now (table .entry)) (now (text .entry))
         (record { spellings = now (spellings .entry); heads = now (heads .entry); bodies = now (bodies .entry) }) ⌝ }
 {
-    if spellings.len() < Book::NAME_AREA
-        || heads.len() < Book::RULES
-        || bodies.len() < Book::BODY_AREA
-    {
-        return refused(Refusal::SHORT_AREA, 0);
+    let short = too_short(spellings.len(), heads.len(), bodies.len());
+    let cause = scan::table::cause(short, table);
+    if cause != 0 {
+        return refused(cause, 0);
     }
     if Book::TEXT_BYTES < text.len() {
         return refused(Refusal::LONG_TEXT, 0);
     }
-    let table = folding();
-    read_formed(text, &table, spellings, heads, bodies)
+    read_formed(text, table, spellings, heads, bodies)
 }

@@ -2,6 +2,7 @@
 -- Assumes nothing.
 use mathlib.Core.Path.{_≡_, refl, sym, ap, _∙_, subst}
 use mathlib.Core.Bool.{Bool, true, false, not, _&&_}
+use mathlib.Core.Logic.{_↔_}
 use mathlib.Core.List.{List, [], _∷_, map}
 use Prim.Native.Nat.{ℕ, zero, suc, _+_, _*_, _≤_, _<_}
 use native.Mathlib.Omega.{arith}
@@ -12,7 +13,7 @@ use borrow.Author.Tests.{leb-true, eqb-true}
 use Rattle.limits.specs.Book.{names, nameBytes, rules, bodyWords, nameArea, bodyArea}
 use Rattle.sets.specs.Set.{every}
 use Rattle.sets.proofs.Logic.{clash, not-true, and-left, and-right, of-not}
-use Rattle.sets.proofs.Tests.{every-at}
+use Rattle.sets.proofs.Tests.{every-at, every-same}
 use Rattle.areas.specs.Area.{part, filled}
 use Rattle.program.specs.Program.{Rule}
 use Rattle.grammar.specs.Bytes.{Bytes, Folding, allOf}
@@ -36,7 +37,7 @@ use Rattle.tables.proofs.Encoding.{
   long-enough,
   filled-same,
 }
-use Rattle.roundtrip.specs.Claims.{Lent, writtenText}
+use Rattle.roundtrip.specs.Claims.{Lent, writtenText, OwnNames}
 use Rattle.roundtrip.proofs.Written.{clauseOf, RulesBelow, written-book}
 use Rattle.roundtrip.proofs.Order.{met-bounds, rules-below, names-again, rules-again}
 
@@ -97,6 +98,24 @@ row-good fold area a e =
         bytes = and-left y z (and-right x (y && z) e);
       },
       and-right y z (and-right x (y && z) e),
+    )
+
+-- tables in order under one folding are so under another exactly where each name is made of bytes that are their own there
+pub own-formed : (fold another : ℕ → ℕ) (o : Areas) (n m : ℕ) → wellFormed fold o n m ≡ true
+    → (wellFormed another o n m ≡ true) ↔ OwnNames another o n
+unfolding wellFormed goodName
+own-formed fold another o n m e =
+    let area : Bytes = o .spellings in (
+      λ w a l. row-good another area a (formed another o n m w .good a l) .0 .bytes,
+      λ names-own.
+          let same : every n (goodName another area) ≡ every n (goodName fold area) =
+          every-same n (goodName another area) (goodName fold area)
+          (λ a l.
+          let good = row-good fold area a (formed fold o n m e .good a l) in
+          let is : allOf (own another) (nameAt area a) ≡ allOf (own fold) (nameAt area a) = names-own a l ∙ sym (good .0 .bytes) in
+          rw is)
+          in
+          rw (same, e),
     )
 
 -- a name that is none of those before it is first met at its own number

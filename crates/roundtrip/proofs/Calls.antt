@@ -2,19 +2,18 @@
 -- Assumes nothing.
 use mathlib.Core.Path.{_≡_, sym, ap, ap₂, subst, _∙_}
 use mathlib.Core.Bool.{true, false}
+use mathlib.Core.Logic.{_↔_}
 use mathlib.Core.List.{List, [], _∷_, _++_, map}
 use Prim.Native.Nat.{ℕ, zero, suc, _-_, _*_, _≤_}
 use native.Mathlib.Omega.{arith}
-use lib.Dec.{ltb, lit<}
+use lib.Dec.{lit<}
 use lib.ListN.{length, take, drop, replicate, length-map}
-use borrow.Author.Tests.{ltb-false, le-ltb}
 use Rattle.limits.specs.Book.{textBytes, nameBytes, rules, bodyWords, nameArea, bodyArea}
-use Rattle.sets.proofs.Logic.{either, not-true}
 use Rattle.words.specs.Row.{Words, pack}
 use Rattle.words.proofs.Rows.{words-pack}
 use Rattle.words.proofs.Areas.{words-append, words-drop}
-use Rattle.grammar.specs.Bytes.{Bytes, Folding, ourLetters}
-use Rattle.grammar.proofs.Folding.{folding as ours}
+use Rattle.grammar.specs.Bytes.{Bytes, Folding, letters}
+use Rattle.grammar.specs.Letters.{FoldTable}
 use Rattle.grammar.specs.Grammar.{Clause}
 use Rattle.program.specs.Program.{Rule}
 use Rattle.tables.specs.Numbering.{namesOf, numbered}
@@ -26,10 +25,11 @@ use Rattle.tables.specs.Claims.{accepted}
 use Rattle.tables.proofs.Numbering.{heads-length, bodies-length}
 use Rattle.areas.proofs.Filled.{length-filled, take-filled, over-filled}
 use Rattle.tables.proofs.Encoding.{length-nameRows, long-enough, not-short}
-use Rattle.tables.proofs.Theorems.{judged, read-calls, read-fits, read-good-at}
-use Rattle.roundtrip.specs.Claims.{writtenText, ReadsTo, over, wrote, WriteCalls}
+use Rattle.tables.proofs.Theorems.{judged, books-read, read-fits, read-good-at}
+use Rattle.roundtrip.specs.Claims.{writtenText, ReadsTo, Lent, over, wrote, WriteReady, OwnNames, WriteCalls}
+use Rattle.roundtrip.proofs.Back.{own-formed}
 use Rattle.roundtrip.proofs.Theorems.{round-trip}
-use Rattle.roundtrip.proofs.Judging.{cramped, roomy, roomy-long, refused-one, refused-ten, in-place, placed-long, placed-fits, write-judges}
+use Rattle.roundtrip.proofs.Judging.{to-long, of-long, write-judges}
 
 -- areas keep their lengths when filled
 still-long : (ns : List Bytes) (rs : List (Rule ℕ)) (old : Areas) → length (nameRows ns) ≤ nameArea → length (headRows rs) ≤ rules
@@ -70,10 +70,6 @@ words-tables cs old h =
     words-append (bodyRows rs) (replicate size 0 ++ drop bodyArea (old .bodies)) (words-bodies rs)
     (words-append (replicate size 0) (drop bodyArea (old .bodies)) (words-zeros size) (words-drop bodyArea (old .bodies) h))
 
--- numbers that are not the same
-differ : (k i j : ℕ) → k ≡ i → k ≡ j → (i ≡ j → ⊥) → ⊥
-differ k i j p q h = h (sym p ∙ q)
-
 module _ (fold : ℕ → ℕ) (folding : Folding fold) where
   -- the rows of a book that was read fit their areas
   module _ (t : Bytes) (cs : List Clause) (e : bookOf fold t ≡ read cs) where
@@ -105,80 +101,92 @@ module _ (fold : ℕ → ℕ) (folding : Folding fold) where
     unfolding tablesOf
     tables-long old s = still-long _ _ old names-fit heads-fit bodies-fit s
 
-  -- where the writer accepts: the areas are long enough, the tables in order, the text fits
-  module _ (o : Areas) (n m : ℕ) (area : Bytes) (zero-number : writeCall fold o n m area .number ≡ 0) where
-    has-room : cramped o area ≡ false
-    has-room =
-        not-true (cramped o area)
-        (λ c. differ _ 1 0 (ap (λ (x : Written). x .number) (refused-one fold o n m area c)) zero-number (λ q. omega (arith, q)))
+-- the two calls under one table
+module _ (table : List ℕ) where
+  abbrev fold : ℕ → ℕ
+  fold = letters table
 
-    in-order : wellFormed fold o n m ≡ true
-    in-order =
-        either (wellFormed fold o n m) (λ w. w)
-        (λ w. absurd (differ _ 10 0 (ap (λ (x : Written). x .number) (refused-ten fold o n m area has-room w)) zero-number (λ q. omega (arith, q))))
-
-    fits : ltb textBytes (length (writtenText o n m)) ≡ false
-    fits =
-        not-true (ltb textBytes (length (writtenText o n m)))
-        (λ l.
-        differ _ 12 0 (ap (λ (x : Written). x .number) (in-place fold o n m area has-room in-order ∙ placed-long (writtenText o n m) area l)) zero-number
-        (λ q. omega (arith, q)))
-
-    whole : writeCall fold o n m area ≡ wrote (length (writtenText o n m)) (filled textBytes (writtenText o n m) area)
-    whole = in-place fold o n m area has-room in-order ∙ placed-fits (writtenText o n m) area fits
-
+  -- what is written reads back
   back : (o old : Areas) (n m size : ℕ) (area text : Bytes) → Words (o .bodies) → short old ≡ false
-      → writeCall fold o n m area ≡ wrote size text → readCall fold (take size text) old ≡ accepted n m (over o old)
+      → writeCall table o n m area ≡ wrote size text → readCall table (take size text) old ≡ accepted n m (over o old)
   back o old n m size area text words s e =
-      let zero-number : writeCall fold o n m area .number ≡ 0 = ap (λ (x : Written). x .number) e in
-      let q : wrote size text ≡ wrote (length (writtenText o n m)) (filled textBytes (writtenText o n m) area) = sym e ∙ whole o n m area zero-number in
-      let same : take size text ≡ writtenText o n m =
-      ap₂ (λ (i : ℕ) (x : Bytes). take i x) (ap (λ (x : Written). x .size) q) (ap (λ (x : Written). x .text) q)
-      ∙ take-filled textBytes (writtenText o n m) area
+      let w : Bytes = writtenText o n m in
+      let judges = write-judges table o n m area words in
+      let zero-number : writeCall table o n m area .number ≡ 0 = ap (λ (x : Written). x .number) e in
+      let ((long, passes), readable, fits) = judges .accepts .0 zero-number in
+      let lent : Lent o = (of-long o area long, words) in
+      let trip = round-trip fold (passes .1) in
+      let r : ReadsTo fold w o n m = trip .back o n m lent (trip .exact o n m lent .1 readable) in
+      let q : wrote size text ≡ wrote (length w) (filled textBytes w area) = sym e ∙ judges .left zero-number in
+      let same : take size text ≡ w =
+      ap₂ (λ (i : ℕ) (x : Bytes). take i x) (ap (λ (x : Written). x .size) q) (ap (λ (x : Written). x .text) q) ∙ take-filled textBytes w area
       in
-      let r : ReadsTo fold (writtenText o n m) o n m =
-      round-trip fold folding .back o n m (roomy-long o area (has-room o n m area zero-number), words) (in-order o n m area zero-number)
-      in
-      ap (λ (x : Bytes). readCall fold x old) same
-      ∙ read-calls fold folding .accepts (writtenText o n m) old (over o old) n m .1 (
+      ap (λ (x : Bytes). readCall table x old) same
+      ∙ books-read table .accepts w old (over o old) n m .1 (
         r .cs,
         s,
-        ltb-false textBytes (length (writtenText o n m)) (fits o n m area zero-number),
-        judged fold folding .accepted (writtenText o n m) (r .cs) .0 (r .reads),
+        passes,
+        fits,
+        judged fold (passes .1) .accepted w (r .cs) .0 (r .reads),
         r .count,
         r .size,
-        over-tables (writtenText o n m) (r .cs) (r .reads) o old (r .tables),
+        over-tables fold (passes .1) w (r .cs) (r .reads) o old (r .tables),
       )
 
-  again : (t area : Bytes) (old o : Areas) (n m : ℕ) → Words (old .bodies) → textBytes ≤ length area → readCall fold t old ≡ accepted n m o
-      → (size : ℕ) × (text : Bytes) × (writeCall fold o n m area ≡ wrote size text) × (size ≤ length t)
-      × ((other : Areas) → short other ≡ false → readCall fold (take size text) other ≡ accepted n m (over o other))
-  again t area old o n m words l e =
-      let (cs, s, short-text, book, a, b, c) = read-calls fold folding .accepts t old o n m .0 e in
-      let reads : bookOf fold t ≡ read cs = judged fold folding .accepted t cs .1 book in
-      let w : Bytes = writtenText (tablesOf cs old) (length (namesOf cs)) (length cs) in
-      let r = round-trip fold folding .again t cs old reads in
-      let call : writeCall fold (tablesOf cs old) (length (namesOf cs)) (length cs) area ≡ wrote (length w) (filled textBytes w area) =
-      in-place fold (tablesOf cs old) (length (namesOf cs)) (length cs) area
-      (roomy (tablesOf cs old) area (tables-long t cs reads old s) l) (r .0)
-      ∙ placed-fits w area (le-ltb textBytes (length w) (omega (arith, r .1, short-text)))
-      in
-      let mine : writeCall fold o n m area ≡ wrote (length w) (filled textBytes w area) =
-      ap (λ (i : ℕ). writeCall fold o i m area) a ∙ ap (λ (i : ℕ). writeCall fold o (length (namesOf cs)) i area) b
-      ∙ ap (λ (x : Areas). writeCall fold x (length (namesOf cs)) (length cs) area) c ∙ call
-      in
-      let in-range : Words (o .bodies) = subst (λ (x : Areas). Words (x .bodies)) (sym c) (words-tables cs old words) in (
-        length w,
-        filled textBytes w area,
-        mine,
-        r .1,
-        λ other g. back o other n m (length w) area (filled textBytes w area) in-range g mine,
-      )
+  -- what a text that is read leaves: tables in order, whose text is no longer
+  module _ (t : Bytes) (old o : Areas) (n m : ℕ) (words : Words (old .bodies)) (e : readCall table t old ≡ accepted n m o) where
+    abbrev Leaves : Areas → ℕ → ℕ → Type 0
+    Leaves x i j = Lent x × (wellFormed fold x i j ≡ true) × (length (writtenText x i j) ≤ length t)
 
-  -- what is written reads back, what is read is written, and each number is given exactly where document 01 gives it
-  pub write-calls : WriteCalls fold
-  write-calls = record { written-read = back; read-written = again; judges = write-judges fold folding }
+    leaves : FoldTable table × (length t ≤ textBytes) × Leaves o n m
+    leaves =
+        let (cs, s, passes, fits, book, a, b, c) = books-read table .accepts t old o n m .0 e in
+        let reads : bookOf fold t ≡ read cs = judged fold (passes .1) .accepted t cs .1 book in
+        let r = round-trip fold (passes .1) .again t cs old reads in
+        let here : Leaves (tablesOf cs old) (length (namesOf cs)) (length cs) =
+        ((tables-long fold (passes .1) t cs reads old s, words-tables cs old words), r .0, r .1)
+        in (
+          passes,
+          fits,
+          subst (λ (x : Areas). Leaves x n m) (sym c)
+              (subst (λ (i : ℕ). Leaves (tablesOf cs old) i m) (sym a) (subst (Leaves (tablesOf cs old) (length (namesOf cs))) (sym b) here)),
+        )
 
--- with document 01's letters: demand 1 for the writer, and demand 2 between tables and text
-pub books-written : WriteCalls ourLetters
-books-written = write-calls ourLetters ours
+    -- they are written, and read back
+    again : (area : Bytes) → textBytes ≤ length area
+        → (size : ℕ) × (text : Bytes) × (writeCall table o n m area ≡ wrote size text) × (size ≤ length t)
+        × ((other : Areas) → short other ≡ false → readCall table (take size text) other ≡ accepted n m (over o other))
+    again area l =
+        let (passes, fits, (lent, formed, shorter)) = leaves in
+        let w : Bytes = writtenText o n m in
+        let judges = write-judges table o n m area (lent .1) in
+        let mine : writeCall table o n m area ≡ wrote (length w) (filled textBytes w area) =
+        judges .left (judges .accepts .1
+        ((to-long o area (lent .0) l, passes), round-trip fold (passes .1) .exact o n m lent .0 formed, omega (arith, fits, shorter)))
+        in
+        (length w, filled textBytes w area, mine, shorter, λ other g. back o other n m (length w) area (filled textBytes w area) (lent .1) g mine)
+
+    -- under another table the names decide
+    across : (area : Bytes) (another : List ℕ) → textBytes ≤ length area → FoldTable another
+        → ((writeCall another o n m area .number ≡ 0) ↔ OwnNames (letters another) o n)
+        × ((writeCall another o n m area .number ≡ 10) ↔ (OwnNames (letters another) o n → ⊥))
+    across area another l passes =
+        let (passed, fits, (lent, formed, shorter)) = leaves in
+        let ready : WriteReady another o area = (to-long o area (lent .0) l, passes) in
+        let judges = write-judges another o n m area (lent .1) in
+        let exact = round-trip (letters another) (passes .1) .exact o n m lent in
+        let own = own-formed fold (letters another) o n m formed in (
+          (λ z. own .0 (exact .1 (judges .accepts .0 z .1)), λ h. judges .accepts .1 (ready, exact .0 (own .1 h), omega (arith, fits, shorter))),
+          (λ z h. judges .ill-formed .0 z .1 (exact .0 (own .1 h)), λ h. judges .ill-formed .1 (ready, λ r. h (own .0 (exact .1 r)))),
+        )
+
+-- demand 1 for the writer, and demand 2 between tables and text: what is written reads back, what is read is written, and each number is given
+-- exactly where documents 01 and 02 give it
+pub books-written : (table : List ℕ) → WriteCalls table
+books-written table =
+    record {
+      written-read = back table;
+      read-written = λ t area old o n m words l e. again table t old o n m words e area l;
+      across = λ t area old o n m another words l passes e. across table t old o n m words e area another l passes;
+      judges = write-judges table;
+    }

@@ -1,103 +1,119 @@
--- The writer's call: each way out, and every number exactly where document 01 gives it.
+-- The writer's call: each way out, and every number exactly where documents 01 and 02 give it.
 -- Assumes nothing.
 use mathlib.Core.Path.{_≡_, refl, sym, ap₂, subst, _∙_}
 use mathlib.Core.Bool.{Bool, true, false, _||_}
-use mathlib.Core.Logic.{inl, inr}
+use mathlib.Core.Logic.{_↔_, inl, inr}
+use mathlib.Core.List.{List}
 use Prim.Native.Nat.{ℕ, _≤_, _<_}
 use native.Mathlib.Omega.{arith}
-use lib.Dec.{ltb}
+use lib.Dec.{eqb, ltb}
 use lib.ListN.{length}
-use borrow.Author.Tests.{ltb-true, ltb-false, le-ltb}
+use borrow.Author.Tests.{eqb-true, eqb-false, eq-eqb, ne-eqb, ltb-true, ltb-false, le-ltb}
 use Rattle.limits.specs.Book.{textBytes}
-use Rattle.limits.specs.Cause.{writeCauses}
-use Rattle.limits.proofs.Causes.{without, other, one-found}
-use Rattle.sets.proofs.Logic.{either, clash, not-true, or-left, or-none, holds, fails, pick-true, pick-false}
+use Rattle.limits.specs.Cause.{OneOf, letterCauses, writeCauses}
+use Rattle.limits.proofs.Causes.{without, other, inside, one-found, one-inside}
+use Rattle.sets.proofs.Logic.{either, clash, or-none, holds, fails, pick-true, pick-false}
 use Rattle.words.specs.Row.{Words}
-use Rattle.grammar.specs.Bytes.{Bytes, Folding}
+use Rattle.grammar.specs.Bytes.{Bytes, letters}
+use Rattle.grammar.specs.Letters.{LettersJudged, lettersCause}
+use Rattle.grammar.proofs.Letters.{letters-judged, letters-pass, letters-cause, letters-other}
 use Rattle.areas.specs.Area.{filled}
 use Rattle.tables.specs.Areas.{Areas, short}
-use Rattle.tables.specs.Writing.{Readable, Written, wellFormed, placed, writeCall}
+use Rattle.tables.specs.Writing.{Readable, Written, unwritten, wellFormed, placed, writeCall}
 use Rattle.tables.proofs.Encoding.{long-enough, not-short}
-use Rattle.roundtrip.specs.Claims.{writtenText, wrote, unwritten, WriteLong, WriteJudges}
+use Rattle.roundtrip.specs.Claims.{writtenText, wrote, WriteLong, WriteReady, WriteJudges}
 use Rattle.roundtrip.proofs.Theorems.{round-trip}
 
--- The ways out of the call.
+-- tables that are not too short and a text area of its stated size are areas of their stated sizes, and the other way
+pub to-long : (o : Areas) (area : Bytes) → short o ≡ false → textBytes ≤ length area → WriteLong o area
+to-long o area s l = let k = long-enough o s in (k .0, k .1, k .2, l)
+
+pub of-long : (o : Areas) (area : Bytes) → WriteLong o area → short o ≡ false
+of-long o area l = not-short o (l .0) (l .1) (l .2)
 
 -- whether an area is too short, the text area among them
-abbrev pub cramped : Areas → Bytes → Bool
+abbrev cramped : Areas → Bytes → Bool
 cramped o area = short o || ltb (length area) textBytes
 
--- areas that are long enough
-pub roomy : (o : Areas) (area : Bytes) → short o ≡ false → textBytes ≤ length area → cramped o area ≡ false
-roomy o area s l = ap₂ _||_ s (le-ltb (length area) textBytes l)
-
--- and what follows from that
-pub roomy-long : (o : Areas) (area : Bytes) → cramped o area ≡ false → short o ≡ false
-roomy-long o area e = not-true (short o) (λ s. clash (or-left (ltb (length area) textBytes) s) e)
-
-module _ (fold : ℕ → ℕ) (o : Areas) (n m : ℕ) (area : Bytes) where
-  -- the ways of the call
-  pub refused-one : cramped o area ≡ true → writeCall fold o n m area ≡ unwritten 1 area
-  unfolding writeCall
-  refused-one e = pick-true _ _ e
-
-  pub refused-ten : cramped o area ≡ false → wellFormed fold o n m ≡ false → writeCall fold o n m area ≡ unwritten 10 area
-  unfolding writeCall
-  refused-ten e f = pick-false _ _ e ∙ pick-false _ _ f
-
-  pub in-place : cramped o area ≡ false → wellFormed fold o n m ≡ true → writeCall fold o n m area ≡ placed (writtenText o n m) area
-  unfolding writeCall
-  in-place e f = pick-false _ _ e ∙ pick-true _ _ f
+-- none is exactly where all have their stated sizes
+uncramped : (o : Areas) (area : Bytes) → (cramped o area ≡ false) ↔ WriteLong o area
+uncramped o area = (
+  λ e.
+      let both = or-none (short o) (ltb (length area) textBytes) e in
+      to-long o area (both .0) (ltb-false (length area) textBytes (both .1)),
+  λ l. ap₂ _||_ (of-long o area l) (le-ltb (length area) textBytes (l .3)),
+)
 
 -- a text too long, and one that fits
-pub placed-long : (w area : Bytes) → ltb textBytes (length w) ≡ true → placed w area ≡ unwritten 12 area
+placed-long : (w area : Bytes) → ltb textBytes (length w) ≡ true → placed w area ≡ unwritten 12 area
 unfolding placed
 placed-long w area e = pick-true _ _ e
 
-pub placed-fits : (w area : Bytes) → ltb textBytes (length w) ≡ false → placed w area ≡ wrote (length w) (filled textBytes w area)
+placed-fits : (w area : Bytes) → ltb textBytes (length w) ≡ false → placed w area ≡ wrote (length w) (filled textBytes w area)
 unfolding placed
 placed-fits w area e = pick-false _ _ e
 
--- Every number of the writer exactly where document 01 gives it.
+module _ (table : List ℕ) (o : Areas) (n m : ℕ) (area : Bytes) where
+  abbrev fold : ℕ → ℕ
+  fold = letters table
 
--- areas of their stated sizes are not too short, and the other way
-long-roomy : (o : Areas) (area : Bytes) → WriteLong o area → cramped o area ≡ false
-long-roomy o area l = roomy o area (not-short o (l .0) (l .1) (l .2)) (l .3)
+  -- what is judged first
+  abbrev cause : ℕ
+  cause = lettersCause (cramped o area) table
 
-roomy-all : (o : Areas) (area : Bytes) → cramped o area ≡ false → WriteLong o area
-roomy-all o area e =
-    let both = or-none (short o) (ltb (length area) textBytes) e in
-    let l = long-enough o (both .0) in
-    (l .0, l .1, l .2, ltb-false (length area) textBytes (both .1))
+  abbrev Ready : Type 0
+  Ready = WriteReady table o area
 
-module _ (fold : ℕ → ℕ) (o : Areas) (n m : ℕ) (area : Bytes) where
-  -- what is claimed of an outcome
-  abbrev Judges : Written → Type 0
-  Judges = WriteJudges fold o n m area
+  -- nothing, exactly where all areas are long enough and the table passes
+  passes : (cause ≡ 0) ↔ Ready
+  passes = letters-pass (cramped o area) (uncramped o area) table
+
+  -- the ways of the call
+  refused-first : (cause ≡ 0 → ⊥) → writeCall table o n m area ≡ unwritten cause area
+  unfolding writeCall
+  refused-first some = pick-false _ _ (ne-eqb cause 0 some)
+
+  module _ (ready : Ready) where
+    refused-ten : wellFormed fold o n m ≡ false → writeCall table o n m area ≡ unwritten 10 area
+    unfolding writeCall
+    refused-ten f = pick-true _ _ (eq-eqb cause 0 (passes .1 ready)) ∙ pick-false _ _ f
+
+    in-place : wellFormed fold o n m ≡ true → writeCall table o n m area ≡ placed (writtenText o n m) area
+    unfolding writeCall
+    in-place f = pick-true _ _ (eq-eqb cause 0 (passes .1 ready)) ∙ pick-true _ _ f
 
   -- The ways out, each with what it is claimed to be.
 
-  -- an area too short
-  way-short : (WriteLong o area → ⊥) → Judges (unwritten 1 area)
-  unfolding without
-  way-short h = record {
-    accepts = fails (λ z. omega arith) (λ p. h (p .0));
-    short = holds refl h;
-    ill-formed = fails (λ z. omega arith) (λ p. h (p .0));
-    long-text = fails (λ z. omega arith) (λ p. h (p .0));
-    no-other = inr (one-found 1 1 writeCauses refl refl);
-    left = λ z. absurd (omega arith);
-    kept = λ i. refl;
-  }
+  abbrev Judges : Written → Type 0
+  Judges = WriteJudges table o n m area
 
-  module _ (long : WriteLong o area) where
+  -- an area too short, or a table that does not pass
+  way-first : (cause ≡ 0 → ⊥) → Judges (unwritten cause area)
+  unfolding without inside
+  way-first some =
+      let one : OneOf cause letterCauses = letters-cause (cramped o area) (uncramped o area) table some in
+      record {
+        accepts = fails some (λ p. some (passes .1 (p .0)));
+        letters-judged = letters-judged (cramped o area) (uncramped o area) table;
+        ill-formed = fails (other 10 cause letterCauses refl one) (λ p. some (passes .1 (p .0)));
+        long-text = fails (other 12 cause letterCauses refl one) (λ p. some (passes .1 (p .0)));
+        no-other = inr (one-inside cause letterCauses writeCauses refl one);
+        left = λ z. absurd (some z);
+        kept = λ i. refl;
+      }
+
+  module _ (ready : Ready) where
+    -- a number that is none of those
+    later : (k : ℕ) → without k letterCauses ≡ true → LettersJudged (WriteLong o area) table k
+    later k e = letters-other table k (ready .0) (ready .1) (λ i. other k k letterCauses e i refl)
+
     -- no book reads to the tables
     way-ill : (Readable fold o n m → ⊥) → Judges (unwritten 10 area)
     unfolding without
     way-ill h = record {
       accepts = fails (λ z. omega arith) (λ p. h (p .1));
-      short = fails (λ z. omega arith) (λ q. q long);
-      ill-formed = holds refl (long, h);
+      letters-judged = later 10 refl;
+      ill-formed = holds refl (ready, h);
       long-text = fails (λ z. omega arith) (λ p. h (p .1));
       no-other = inr (one-found 10 10 writeCauses refl refl);
       left = λ z. absurd (omega arith);
@@ -110,9 +126,9 @@ module _ (fold : ℕ → ℕ) (o : Areas) (n m : ℕ) (area : Bytes) where
       unfolding without
       way-long l = record {
         accepts = fails (λ z. omega arith) (λ p. omega (arith, p .2));
-        short = fails (λ z. omega arith) (λ q. q long);
+        letters-judged = later 12 refl;
         ill-formed = fails (λ z. omega arith) (λ p. p .1 readable);
-        long-text = holds refl (long, readable, l);
+        long-text = holds refl (ready, readable, l);
         no-other = inr (one-found 12 12 writeCauses refl refl);
         left = λ z. absurd (omega arith);
         kept = λ i. refl;
@@ -122,8 +138,8 @@ module _ (fold : ℕ → ℕ) (o : Areas) (n m : ℕ) (area : Bytes) where
       way-wrote : length (writtenText o n m) ≤ textBytes → Judges (wrote (length (writtenText o n m)) (filled textBytes (writtenText o n m) area))
       unfolding without
       way-wrote l = record {
-        accepts = holds refl (long, readable, l);
-        short = fails (λ z. omega arith) (λ q. q long);
+        accepts = holds refl (ready, readable, l);
+        letters-judged = later 0 refl;
         ill-formed = fails (λ z. omega arith) (λ p. p .1 readable);
         long-text = fails (λ z. omega arith) (λ p. omega (arith, p .2));
         no-other = inl refl;
@@ -131,24 +147,24 @@ module _ (fold : ℕ → ℕ) (o : Areas) (n m : ℕ) (area : Bytes) where
         kept = λ i. absurd (other 0 0 writeCauses refl i refl);
       }
 
--- what is claimed of the writer's call
-pub write-judges : (fold : ℕ → ℕ) → Folding fold → (o : Areas) (n m : ℕ) (area : Bytes) → Words (o .bodies)
-    → WriteJudges fold o n m area (writeCall fold o n m area)
-write-judges fold folding o n m area words =
-    let Claim : Written → Type 0 = Judges fold o n m area in
-    either (cramped o area)
-    (λ c. subst Claim (sym (refused-one fold o n m area c)) (way-short fold o n m area (λ l. clash c (long-roomy o area l))))
-    (λ c.
-    let long : WriteLong o area = roomy-all o area c in
-    let exact = round-trip fold folding .exact o n m (roomy-long o area c, words) in
-    either (wellFormed fold o n m)
-    (λ w.
-    let is : writeCall fold o n m area ≡ placed (writtenText o n m) area = in-place fold o n m area c w in
-    either (ltb textBytes (length (writtenText o n m)))
-    (λ l.
-    subst Claim (sym (is ∙ placed-long (writtenText o n m) area l))
-    (way-long fold o n m area long (exact .0 w) (ltb-true textBytes (length (writtenText o n m)) l)))
-    (λ l.
-    subst Claim (sym (is ∙ placed-fits (writtenText o n m) area l))
-    (way-wrote fold o n m area long (exact .0 w) (ltb-false textBytes (length (writtenText o n m)) l))))
-    (λ w. subst Claim (sym (refused-ten fold o n m area c w)) (way-ill fold o n m area long (λ r. clash (exact .1 r) w))))
+  -- what is claimed of the writer's call
+  pub write-judges : Words (o .bodies) → Judges (writeCall table o n m area)
+  write-judges words =
+      either (eqb cause 0)
+      (λ z.
+      let ready : Ready = passes .0 (eqb-true cause 0 z) in
+      let exact = round-trip fold (ready .1 .1) .exact o n m (of-long o area (ready .0), words) in
+      either (wellFormed fold o n m)
+      (λ w.
+      let is : writeCall table o n m area ≡ placed (writtenText o n m) area = in-place ready w in
+      either (ltb textBytes (length (writtenText o n m)))
+      (λ l.
+      subst Judges (sym (is ∙ placed-long (writtenText o n m) area l))
+      (way-long ready (exact .0 w) (ltb-true textBytes (length (writtenText o n m)) l)))
+      (λ l.
+      subst Judges (sym (is ∙ placed-fits (writtenText o n m) area l))
+      (way-wrote ready (exact .0 w) (ltb-false textBytes (length (writtenText o n m)) l))))
+      (λ w. subst Judges (sym (refused-ten ready w)) (way-ill ready (λ r. clash (exact .1 r) w))))
+      (λ z.
+      let some : cause ≡ 0 → ⊥ = eqb-false cause 0 z in
+      subst Judges (sym (refused-first some)) (way-first some))

@@ -1,4 +1,4 @@
-pub mod Entries
+pub mod Tables
 pub mod Scans
 pub mod Steps
 pub mod Hashing

@@ -1,3 +1,2 @@
-pub mod Fold
 pub mod Hash
 pub mod Places

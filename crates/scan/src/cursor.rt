@@ -8,7 +8,7 @@ ghost use Rattle.limits.specs.Book.{textBytes};
 ghost use Rattle.grammar.specs.Bytes.{space, lineEnd, colon, hash, blank, notEnd, nameByte, letters};
 ghost use Rattle.grammar.specs.Grammar.{mark};
 ghost use Rattle.grammar.specs.Lines.{starts};
-ghost use Rattle.scan.specs.Fold.{FoldTable};
+ghost use Rattle.grammar.specs.Letters.{FoldTable};
 ghost use Rattle.scan.specs.Hash.{hashOf};
 ghost use Rattle.scan.specs.Places.{pastAt, nameFolded};
 

@@ -1,7 +1,7 @@
 -- The outcomes of the call: laws over what each step answers and leaves.
 -- Assumes nothing.
 use mathlib.Core.Path.{_≡_, refl, sym, ap, ap₂, _∙_, subst}
-use mathlib.Core.Bool.{Bool, false}
+use mathlib.Core.Bool.{Bool}
 use mathlib.Core.List.{List}
 use Prim.Native.Nat.{ℕ, suc, _+_, _*_, _≤_, _<_}
 use native.Mathlib.Omega.{arith}
@@ -17,9 +17,10 @@ use Rattle.program.specs.System.{System, round, folded as after, roundsOf, held
 use Rattle.program.specs.Standard.{standard}
 use Rattle.program.proofs.Homes.{names-below}
 use Rattle.program.proofs.Theorems.{least-model}
-use Rattle.grammar.specs.Bytes.{Bytes, ourLetters}
+use Rattle.grammar.specs.Bytes.{Bytes, Folding, letters}
+use Rattle.grammar.specs.Letters.{FoldTable, lettersCause}
 use Rattle.grammar.specs.Grammar.{Clause}
-use Rattle.grammar.proofs.Folding.{folding}
+use Rattle.grammar.proofs.Letters.{letters-pass}
 use Rattle.tables.specs.Numbering.{namesOf, programOf}
 use Rattle.tables.specs.Reading.{Reading, read, refused, Fits, bookOf}
 use Rattle.areas.specs.Area.{filled}
@@ -37,8 +38,8 @@ use Rattle.systems.specs.Claims.{TablesLong}
 use Rattle.systems.proofs.Bridge.{tables-formed}
 use Rattle.systems.proofs.Running.{length-model, model-below, round-mono}
 use Rattle.solving.specs.Solve.{SolveAreas, SolveOutcome, shortAreas, solveRefusal, answerOf, solvedAreas, solveRead, solveCall}
-use Rattle.solving.specs.SolveClaims.{SolveLong}
-use Rattle.solving.proofs.Judging.{areas-long, long-areas, long-tables, solve-short, solve-long-text, solve-over-folds, solve-in-range}
+use Rattle.solving.specs.SolveClaims.{SolveLong, SolveReady}
+use Rattle.solving.proofs.Judging.{areas-long, long-areas, long-tables, solve-cause, solve-short, solve-long-text, solve-over-folds, solve-in-range}
 use Rattle.solving.proofs.Judging.{solve-refused, solve-over-atoms, solve-solved}
 use Rattle.solving.proofs.Staged.{tables-program, book-formed, book-long}
 use Rattle.listing.specs.Write.{Listing, listingOf}
@@ -116,14 +117,35 @@ end-refused {r} {number} e some (read cs) k =
     ap (λ (s : Solved). s .end) e
     ∙ sym (pick-false _ 0 (ap (λ (s : Solved). eqb (s .answer .number) 0) e ∙ ne-eqb number 0 some))
 
--- areas, text and fold number are in range
-pub record Ranged (t : Bytes) (k : ℕ) (o : SolveAreas) : Type 0 where
+-- What is judged first, as q says.
+module _ (table : List ℕ) (t : Bytes) (k : ℕ) (old : SolveAreas) {low : Bool}
+    (e : low ≡ shortSolve (length (old .tables .spellings)) (length (old .tables .heads)) (length (old .tables .bodies))
+    (length (old .all)) (length (old .any)) (length (old .spare)) (length (old .model)) (length (old .listing)))
+    {q : ℕ} (f : q ≡ lettersCause low table) where
+  -- the test is the solver's
+  cause-is : q ≡ lettersCause (shortAreas old) table
+  unfolding shortAreas short shortSolve
+  cause-is = f ∙ ap (λ (b : Bool). lettersCause b table) e
+
+  -- refused
+  pub call-first : {r : Solved} → r ≡ refusedAs q 0 → (q ≡ 0 → ⊥) → gives (r .answer) old ≡ solveCall table t k old
+  call-first d some =
+      ap (λ (x : Solved). gives (x .answer) old) d ∙ ap (λ (i : ℕ). solveRefusal i 0 (old .tables) old) cause-is
+      ∙ sym (solve-cause table t k old (λ z. some (cause-is ∙ z)))
+
+  -- else the table passes
+  pub passes-first : q ≡ 0 → FoldTable table
+  passes-first z = letters-pass (shortAreas old) (areas-long old, long-areas old) table .0 (sym cause-is ∙ z) .1
+
+-- areas, table, text and fold number are in range
+pub record Ranged (table : List ℕ) (t : Bytes) (k : ℕ) (o : SolveAreas) : Type 0 where
   pub long : SolveLong o
+  pub passes : FoldTable table
   pub text : length t ≤ textBytes
   pub few : k ≤ folds
 
 -- `low` is whether an area is too short, `number` the cause before the text is read
-module _ (t : Bytes) (k : ℕ) (old : SolveAreas) {low : Bool}
+module _ (table : List ℕ) (passes : FoldTable table) (t : Bytes) (k : ℕ) (old : SolveAreas) {low : Bool}
     (e : low ≡ shortSolve (length (old .tables .spellings)) (length (old .tables .heads)) (length (old .tables .bodies))
     (length (old .all)) (length (old .any)) (length (old .spare)) (length (old .model)) (length (old .listing)))
     {number : ℕ} (f : number ≡ rangeCause low (length t) k) where
@@ -134,64 +156,67 @@ module _ (t : Bytes) (k : ℕ) (old : SolveAreas) {low : Bool}
 
   -- the call is refused for the cause, or there is none and all is in range
   by-cause : {X : Type 0}
-      → ((j : ℕ) → number ≡ suc j → solveCall ourLetters t k old ≡ solveRefusal (suc j) 0 (old .tables) old → X)
-      → (number ≡ 0 → Ranged t k old → X)
+      → ((j : ℕ) → number ≡ suc j → solveCall table t k old ≡ solveRefusal (suc j) 0 (old .tables) old → X)
+      → (number ≡ 0 → Ranged table t k old → X)
       → X
   by-cause refuse pass =
       either low
-      (λ x. refuse 0 (f ∙ sym (cause-short low (length t) k x)) (solve-short ourLetters t k old (sym low-is ∙ x)))
+      (λ x. refuse 0 (f ∙ sym (cause-short low (length t) k x)) (solve-short table t k old (sym low-is ∙ x)))
       (λ x.
-      let long : shortAreas old ≡ false = sym low-is ∙ x in
+      let ready : SolveReady table old = (areas-long old (sym low-is ∙ x), passes) in
       either (ltb textBytes (length t))
       (λ y.
       let l : textBytes < length t = ltb-true textBytes (length t) y in
-      refuse 1 (f ∙ sym (cause-text low (length t) k x l)) (solve-long-text ourLetters t k old long l))
+      refuse 1 (f ∙ sym (cause-text low (length t) k x l)) (solve-long-text table t k old ready l))
       (λ y.
       let fits : length t ≤ textBytes = ltb-false textBytes (length t) y in
       either (ltb folds k)
       (λ z.
       let l : folds < k = ltb-true folds k z in
-      refuse 8 (f ∙ sym (cause-folds low (length t) k x fits l)) (solve-over-folds ourLetters t k old long fits l))
+      refuse 8 (f ∙ sym (cause-folds low (length t) k x fits l)) (solve-over-folds table t k old ready fits l))
       (λ z.
       let l : k ≤ folds = ltb-false folds k z in
-      pass (f ∙ sym (cause-none low (length t) k x fits l)) (record { long = areas-long old long; text = fits; few = l }))))
+      pass (f ∙ sym (cause-none low (length t) k x fits l)) (record { long = ready .0; passes = passes; text = fits; few = l }))))
 
   -- refused before the text is read
-  pub call-early : {r : Solved} → r ≡ refusedAs number 0 → (number ≡ 0 → ⊥) → gives (r .answer) old ≡ solveCall ourLetters t k old
+  pub call-early : {r : Solved} → r ≡ refusedAs number 0 → (number ≡ 0 → ⊥) → gives (r .answer) old ≡ solveCall table t k old
   call-early d some =
       by-cause
       (λ j q s. ap (λ (x : Solved). gives (x .answer) old) d ∙ ap (λ (i : ℕ). solveRefusal i 0 (old .tables) old) q ∙ sym s)
       (λ z range. absurd (some z))
 
   -- no cause
-  pub ranged : number ≡ 0 → Ranged t k old
+  pub ranged : number ≡ 0 → Ranged table t k old
   ranged z = by-cause (λ j p s. absurd (omega (arith, p, z))) (λ p range. range)
 
--- what a text comes to by the letters of a table that are ours is what it comes to by ours
-pub by-ours : (fold : ℕ → ℕ) (t : Bytes) (o : Areas) {r : Outcome} → fold ≡ ourLetters → r ≡ outcome (bookOf fold t) o → r ≡ outcome (bookOf ourLetters t) o
-by-ours fold t o e g = g ∙ ap (λ (f : ℕ → ℕ). outcome (bookOf f t) o) e
-
 -- a text that is refused has a number
-some-cause : (t : Bytes) (i j : ℕ) → bookOf ourLetters t ≡ refused i j → i ≡ 0 → ⊥
-some-cause t i j b = refusal-some ourLetters t i j (judged ourLetters folding .refuses t i j .0 b)
+some-cause : (table : List ℕ) → FoldTable table → (t : Bytes) (i j : ℕ) → bookOf (letters table) t ≡ refused i j → i ≡ 0 → ⊥
+some-cause table passes t i j b = refusal-some (letters table) t i j (judged (letters table) (passes .1) .refuses t i j .0 b)
 
 -- the text is a book, whose names and rules are counted and left
-record BookRead (t : Bytes) (old : Areas) (r : Outcome) : Type 0 where
+record BookRead (table : List ℕ) (t : Bytes) (old : Areas) (r : Outcome) : Type 0 where
   cs : List Clause
-  reads : bookOf ourLetters t ≡ read cs
+  reads : bookOf (letters table) t ≡ read cs
   left : r ≡ outcome (read cs) old
 
 -- the text is read, as r says
-module _ {t : Bytes} {k : ℕ} {old : SolveAreas} (range : Ranged t k old) {r : Outcome} (g : r ≡ outcome (bookOf ourLetters t) (old .tables)) where
+module _ {table : List ℕ} {t : Bytes} {k : ℕ} {old : SolveAreas} (range : Ranged table t k old)
+    {r : Outcome} (g : r ≡ outcome (bookOf (letters table) t) (old .tables)) where
+  abbrev fold : ℕ → ℕ
+  fold = letters table
+
+  abbrev folding : Folding fold
+  folding = range .passes .1
+
   -- what the solver answers and leaves, x being what the text comes to
-  solver-is : (x : Reading) → bookOf ourLetters t ≡ x → solveCall ourLetters t k old ≡ solveRead x k old
+  solver-is : (x : Reading) → bookOf fold t ≡ x → solveCall table t k old ≡ solveRead x k old
   solver-is x b =
-      solve-in-range ourLetters t k old (long-areas old (range .long)) (range .text) (range .few)
+      solve-in-range table t k old (range .long, range .passes) (range .text) (range .few)
       ∙ ap (λ (y : Reading). solveRead y k old) b
 
   -- refused by the reader
-  refused-by : (x : Reading) → bookOf ourLetters t ≡ x → r ≡ outcome x (old .tables) → (r .answer .number ≡ 0 → ⊥)
-      → solveRefusal (r .answer .number) (r .answer .line) (r .areas) old ≡ solveCall ourLetters t k old
+  refused-by : (x : Reading) → bookOf fold t ≡ x → r ≡ outcome x (old .tables) → (r .answer .number ≡ 0 → ⊥)
+      → solveRefusal (r .answer .number) (r .answer .line) (r .areas) old ≡ solveCall table t k old
   unfolding outcome refusal
   refused-by (read cs) b d some = absurd (some (ap (λ (o : Outcome). o .answer .number) d))
   refused-by (refused i j) b d some =
@@ -199,20 +224,20 @@ module _ {t : Bytes} {k : ℕ} {old : SolveAreas} (range : Ranged t k old) {r : 
       ∙ sym (solver-is (refused i j) b ∙ solve-refused i j k old)
 
   pub call-refused : {s : Solved} → s ≡ refusedAs (r .answer .number) (r .answer .line) → (r .answer .number ≡ 0 → ⊥)
-      → gives (s .answer) (areasOf (r .areas) (runIn old) (old .listing)) ≡ solveCall ourLetters t k old
+      → gives (s .answer) (areasOf (r .areas) (runIn old) (old .listing)) ≡ solveCall table t k old
   call-refused d some =
-      ap (λ (x : Solved). gives (x .answer) (areasOf (r .areas) (runIn old) (old .listing))) d ∙ refused-by (bookOf ourLetters t) refl g some
+      ap (λ (x : Solved). gives (x .answer) (areasOf (r .areas) (runIn old) (old .listing))) d ∙ refused-by (bookOf fold t) refl g some
 
   -- else read
-  read-by : (x : Reading) → bookOf ourLetters t ≡ x → r ≡ outcome x (old .tables) → r .answer .number ≡ 0 → BookRead t (old .tables) r
+  read-by : (x : Reading) → bookOf fold t ≡ x → r ≡ outcome x (old .tables) → r .answer .number ≡ 0 → BookRead table t (old .tables) r
   unfolding outcome refusal
   read-by (read cs) b d none = record { cs = cs; reads = b; left = d }
-  read-by (refused i j) b d none = absurd (some-cause t i j b (sym (ap (λ (o : Outcome). o .answer .number) d) ∙ none))
+  read-by (refused i j) b d none = absurd (some-cause table (range .passes) t i j b (sym (ap (λ (o : Outcome). o .answer .number) d) ∙ none))
 
   module _ (none : r .answer .number ≡ 0) where
     -- the book, its names and its program, which fit
-    book : BookRead t (old .tables) r
-    book = read-by (bookOf ourLetters t) refl g none
+    book : BookRead table t (old .tables) r
+    book = read-by (bookOf fold t) refl g none
 
     abbrev ns : List Bytes
     ns = namesOf (book .cs)
@@ -221,7 +246,7 @@ module _ {t : Bytes} {k : ℕ} {old : SolveAreas} (range : Ranged t k old) {r : 
     p = programOf (book .cs)
 
     fits : Fits (book .cs)
-    fits = let l = read-fits ourLetters folding t (book .cs) (book .reads) in record { rules-fit = l .0; names-fit = l .1 }
+    fits = let l = read-fits fold folding t (book .cs) (book .reads) in record { rules-fit = l .0; names-fit = l .1 }
 
     -- what is left, part by part
     names-are : r .answer .names ≡ length ns
@@ -274,7 +299,7 @@ module _ {t : Bytes} {k : ℕ} {old : SolveAreas} (range : Ranged t k old) {r : 
 
       -- refused for them
       pub call-over : {a : Solved} → a ≡ refusedAs (s .number) 0 → (s .number ≡ 0 → ⊥)
-          → gives (a .answer) (areasOf (r .areas) (s .areas) (old .listing)) ≡ solveCall ourLetters t k old
+          → gives (a .answer) (areasOf (r .areas) (s .areas) (old .listing)) ≡ solveCall table t k old
       unfolding runMade
       call-over d some =
           let o = over (λ (x : RunOutcome). x .number) _ _ _ refl refl run-is some in
@@ -315,7 +340,7 @@ module _ {t : Bytes} {k : ℕ} {old : SolveAreas} (range : Ranged t k old) {r : 
         listing-ready =
             let few-names : length ns ≤ names = fits .names-fit in
             let used : length (nameRows ns) ≡ length ns * nameBytes =
-            length-nameRows ns (λ a l. read-fine ourLetters folding t (book .cs) (book .reads) a l .0) in
+            length-nameRows ns (λ a l. read-fine fold folding t (book .cs) (book .reads) a l .0) in
             let area : length (r .areas .spellings) ≡ length (filled nameArea (nameRows ns) (old .tables .spellings)) =
             ap (λ (o : Areas). length (o .spellings)) tables-are in (
               omega (arith, few-names, names-are),
@@ -349,7 +374,7 @@ module _ {t : Bytes} {k : ℕ} {old : SolveAreas} (range : Ranged t k old) {r : 
         unfolding tablesOf filledWith
         names-left =
             ap₂ (λ (o : Areas) (i : ℕ). namesIn (o .spellings) i) tables-are names-are
-            ∙ names-filled ns (old .tables .spellings) (read-fine ourLetters folding t (book .cs) (book .reads))
+            ∙ names-filled ns (old .tables .spellings) (read-fine fold folding t (book .cs) (book .reads))
 
         -- the listing is written, as l says: the book's
         module _ {l : Listing}
@@ -360,7 +385,7 @@ module _ {t : Bytes} {k : ℕ} {old : SolveAreas} (range : Ranged t k old) {r : 
               ∙ listing-same ns (modelIn (s .areas .model)) (heldBy made) k (roundsOf made) (old .listing) same-held
 
           -- solved
-          pub call-done : solvedAs r s l ≡ solveCall ourLetters t k old
+          pub call-done : solvedAs r s l ≡ solveCall table t k old
           unfolding outcome runMade rowsLeft listingOf answerOf solvedAreas programOf
           call-done =
               ap₂ (λ (x : Outcome) (y : RunOutcome). solvedAs x y l) (book .left) made-is
@@ -368,7 +393,7 @@ module _ {t : Bytes} {k : ℕ} {old : SolveAreas} (range : Ranged t k old) {r : 
               ∙ sym (solver-is (read (book .cs)) (book .reads) ∙ solve-solved (book .cs) k old few)
 
           -- and the end is that of the listing's text
-          pub end-done : l .end ≡ listedEnd 0 (bookOf ourLetters t) k
+          pub end-done : l .end ≡ listedEnd 0 (bookOf fold t) k
           unfolding listingOf listedEnd
           end-done =
               ap (λ (x : Listing). x .end) listing-is ∙ sym (pick-true _ 0 (eq-eqb 0 0 refl))

@@ -1,16 +1,13 @@
 // The public call that solves a book: from text to listing; and its work in areas that may be known to be clear.
 use limits::Book;
 use limits::Refusal;
-use scan::table::folding;
 ghost use mathlib.Core.Path.{_≡_};
 ghost use mathlib.Core.Bool.{true};
-ghost use Prim.Native.Nat.{_≤_};
-ghost use lib.ListN.{length};
-ghost use Rattle.limits.specs.Book.{textBytes, rules, nameArea, bodyArea, rowArea};
+ghost use Rattle.limits.specs.Book.{rowArea};
 ghost use Rattle.areas.specs.Area.{Clear};
-ghost use Rattle.grammar.specs.Bytes.{ourLetters};
+ghost use Rattle.grammar.specs.Bytes.{letters};
+ghost use Rattle.grammar.specs.Letters.{FoldTable};
 ghost use Rattle.tables.specs.Reading.{bookOf};
-ghost use Rattle.tables.specs.Areas.{outcome};
 ghost use Rattle.solving.specs.Solve.{solveCall};
 ghost use Rattle.solver.specs.Range.{shortSolve, rangeCause};
 ghost use Rattle.solver.specs.End.{listedEnd};
@@ -108,24 +105,11 @@ fn refused(number: usize, line: usize) -> Solved
     Solved { answer, end: 0 }
 }
 
-// Reads a text of at most 16,384 bytes into areas of their stated sizes, by our letters.
-fn read(text: &[u8], spellings: &mut [u8], heads: &mut [u16], bodies: &mut [u64]) -> reader::Answer
-    requires { ⌜ (nameArea ≤ length (now spellings)) × (rules ≤ length (now heads)) × (bodyArea ≤ length (now bodies))
-        × (length (now text) ≤ textBytes) ⌝ }
-    ensures { λ r. ⌜ record {
-      answer = record { number = r .number; line = r .line; names = r .names; rules = r .rules };
-      areas = record { spellings = now (spellings .exit); heads = now (heads .exit); bodies = now (bodies .exit) };
-    } ≡ outcome (bookOf ourLetters (now (text .entry)))
-        (record { spellings = now (spellings .entry); heads = now (heads .entry); bodies = now (bodies .entry) }) ⌝ }
-{
-    let table = folding();
-    reader::read_formed(text, &table, spellings, heads, bodies)
-}
-
-// Reads the text, standardises its rules, folds the rows, makes the rounds and lists the names held. Rows that the book leaves unused are
-// not cleared where the caller knows its areas of rows to be clear (fresh).
+// Reads the text by the letters of a table that passes, standardises its rules, folds the rows, makes the rounds and lists the names held.
+// Rows that the book leaves unused are not cleared where the caller knows its areas of rows to be clear (fresh).
 pub fn solve_in(
     text: &[u8],
+    table: &[u8],
     folds: usize,
     spellings: &mut [u8],
     heads: &mut [u16],
@@ -137,6 +121,7 @@ pub fn solve_in(
     listing: &mut [u8],
     fresh: bool,
 ) -> Solved
+    requires { ⌜ FoldTable (now table) ⌝ }
     requires { ⌜ (fresh ≡ true → Clear rowArea (now all) × Clear rowArea (now any) × Clear rowArea (now spare)) ⌝ }
     ensures solved { λ r. ⌜ record {
       answer = record {
@@ -157,7 +142,7 @@ pub fn solve_in(
         model = now (model .exit);
         listing = now (listing .exit);
       };
-    } ≡ solveCall ourLetters (now (text .entry)) folds (record {
+    } ≡ solveCall (now (table .entry)) (now (text .entry)) folds (record {
       tables = record { spellings = now (spellings .entry); heads = now (heads .entry); bodies = now (bodies .entry) };
       all = now (all .entry);
       any = now (any .entry);
@@ -165,7 +150,7 @@ pub fn solve_in(
       model = now (model .entry);
       listing = now (listing .entry);
     }) ⌝ }
-    ensures end { λ r. ⌜ r .end ≡ listedEnd (r .answer .number) (bookOf ourLetters (now (text .entry))) folds ⌝ }
+    ensures end { λ r. ⌜ r .end ≡ listedEnd (r .answer .number) (bookOf (letters (now (table .entry))) (now (text .entry))) folds ⌝ }
 {
     let short = too_short(
         spellings.len(),
@@ -181,7 +166,7 @@ pub fn solve_in(
     if number != 0 {
         return refused(number, 0);
     }
-    let book = read(text, spellings, heads, bodies);
+    let book = reader::read_formed(text, table, spellings, heads, bodies);
     if book.number != 0 {
         return refused(book.number, book.line);
     }
@@ -217,9 +202,10 @@ pub fn solve_in(
     }
 }
 
-// The same in areas that may hold anything.
+// The same with any table, in areas that may hold anything: areas too short and the table are judged before all else.
 pub fn solve(
     text: &[u8],
+    table: &[u8],
     folds: usize,
     spellings: &mut [u8],
     heads: &mut [u16],
@@ -249,7 +235,7 @@ pub fn solve(
         model = now (model .exit);
         listing = now (listing .exit);
       };
-    } ≡ solveCall ourLetters (now (text .entry)) folds (record {
+    } ≡ solveCall (now (table .entry)) (now (text .entry)) folds (record {
       tables = record { spellings = now (spellings .entry); heads = now (heads .entry); bodies = now (bodies .entry) };
       all = now (all .entry);
       any = now (any .entry);
@@ -258,8 +244,24 @@ pub fn solve(
       listing = now (listing .entry);
     }) ⌝ }
 {
+    let short = too_short(
+        spellings.len(),
+        heads.len(),
+        bodies.len(),
+        all.len(),
+        any.len(),
+        spare.len(),
+        model.len(),
+        listing.len(),
+    );
+    let first = scan::table::cause(short, table);
+    if first != 0 {
+        let unsolved = refused(first, 0);
+        return unsolved.answer;
+    }
     let solved = solve_in(
         text,
+        table,
         folds,
         spellings,
         heads,

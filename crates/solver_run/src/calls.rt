@@ -1,8 +1,8 @@
 // The solver and the plain route, each with what is printed of it: the answer, a checksum of each area that it was lent, and the listing
 // of few atoms whole.
-use crate::print::up_to_zero;
 use crate::print::words;
 use limits::Book;
+use scan::table::folding;
 use trial::areas::Area;
 use trial::print;
 
@@ -37,7 +37,7 @@ fn print_listing(r: solver::Answer, folds: usize, listing: &[u8]) {
     print::total8(listing);
     print::end();
     if r.number == 0 && r.atoms <= print::FEW && folds % Book::FOLDS == 0 {
-        up_to_zero(listing);
+        print::up_to_zero(listing);
     }
 }
 
@@ -53,8 +53,10 @@ pub fn solve(
     model: &mut [u64],
     listing: &mut [u8],
 ) {
+    let table = folding();
     let r = solver::solve(
         text,
+        &table,
         folds,
         spellings,
         heads,
@@ -94,7 +96,8 @@ pub fn plainly(text: &[u8]) {
     let mut spellings = [Area::MARK8; Area::SPELLINGS];
     let mut heads = [Area::MARK16; Area::HEADS];
     let mut bodies = [Area::MARK64; Area::BODIES];
-    let r = reader::read(text, &mut spellings, &mut heads, &mut bodies);
+    let table = folding();
+    let r = reader::read(text, &table, &mut spellings, &mut heads, &mut bodies);
     if r.number == 0 {
         run(&heads, &bodies, r.names, r.rules);
     }

@@ -16,7 +16,7 @@ use Rattle.program.specs.System.{System, folded, heldBy}
 use Rattle.program.specs.Standard.{standard}
 use Rattle.program.proofs.Homes.{names-below}
 use Rattle.program.proofs.Theorems.{least-model}
-use Rattle.grammar.specs.Bytes.{Bytes, Folding}
+use Rattle.grammar.specs.Bytes.{Bytes, Folding, letters}
 use Rattle.grammar.specs.Grammar.{Clause}
 use Rattle.tables.specs.Numbering.{place, namesOf, programOf}
 use Rattle.tables.specs.Reading.{Book}
@@ -24,7 +24,7 @@ use Rattle.tables.specs.Areas.{Areas, Counts, countsOf, rulesOf, short, tablesO
 use Rattle.tables.specs.Claims.{accepted}
 use Rattle.tables.proofs.Encoding.{long-enough}
 use Rattle.tables.proofs.Numbering.{place-at}
-use Rattle.tables.proofs.Theorems.{numbers, judged, read-calls}
+use Rattle.tables.proofs.Theorems.{numbers, judged, books-read}
 use Rattle.systems.specs.Rows.{below}
 use Rattle.systems.specs.Rounds.{modelIn, withModel}
 use Rattle.systems.proofs.Running.{model-below}
@@ -89,7 +89,13 @@ module _
 -- After the solver.
 
 -- What it leaves where it accepts.
-module _ (fold : ℕ → ℕ) (folding : Folding fold) (t : Bytes) (k : ℕ) (old : SolveAreas) (s : Solved fold t k old) where
+module _ (table : List ℕ) (t : Bytes) (k : ℕ) (old : SolveAreas) (s : Solved table t k old) where
+  abbrev fold : ℕ → ℕ
+  fold = letters table
+
+  abbrev folding : Folding fold
+  folding = s .folding
+
   -- the book's program, its system after k folds, and the model area
   abbrev p : Program
   p = programOf (s .cs)
@@ -117,7 +123,7 @@ module _ (fold : ℕ → ℕ) (folding : Folding fold) (t : Bytes) (k : ℕ) (ol
   -- and the look-up has the names
   left-looks : (a : ℕ) → a < length (namesOf (s .cs))
       → lookUp (tablesOf (s .cs) (old .tables) .spellings) (length (namesOf (s .cs))) a ≡ getD (namesOf (s .cs)) a []
-  left-looks = look-up-read fold folding t (s .cs) (s .reads) (old .tables) (s .range .0 .spellings)
+  left-looks = look-up-read fold folding t (s .cs) (s .reads) (old .tables) (s .range .0 .0 .spellings)
 
   -- all together
   left-holds : SolveHolds fold t (record { answer = answerOf p k; areas = solvedAreas (s .cs) k old })
@@ -135,11 +141,11 @@ module _ (fold : ℕ → ℕ) (folding : Folding fold) (t : Bytes) (k : ℕ) (ol
       }
 
 -- where the solver accepts, it holds exactly the names in every model, and they are a model
-pub solve-holds : (fold : ℕ → ℕ) → Folding fold → (t : Bytes) (k : ℕ) (old : SolveAreas) → solveCall fold t k old .answer .number ≡ 0
-    → SolveHolds fold t (solveCall fold t k old)
-solve-holds fold folding t k old z =
-    let s : Solved fold t k old = solved-of fold folding t k old z in
-    subst (SolveHolds fold t) (sym (s .is)) (left-holds fold folding t k old s)
+pub solve-holds : (table : List ℕ) (t : Bytes) (k : ℕ) (old : SolveAreas) → solveCall table t k old .answer .number ≡ 0
+    → SolveHolds (letters table) t (solveCall table t k old)
+solve-holds table t k old z =
+    let s : Solved table t k old = solved-of table t k old z in
+    subst (SolveHolds (letters table) t) (sym (s .is)) (left-holds table t k old s)
 
 -- After the plain route.
 
@@ -194,30 +200,29 @@ module _
     counted-holds n m o is-n is-m is-o = rw (is-n, is-m, is-o) book-holds
 
 -- given the tables read from a book, it accepts them and holds exactly the names in every model
-pub plain-holds : (fold : ℕ → ℕ) → Folding fold → (t : Bytes) (old o : Areas) (counts : Counts)
-    → readCall fold t old ≡ accepted (counts .names) (counts .rules) o → (model : List ℕ) → rowWords ≤ length model
-    → PlainHolds fold t (o .spellings) (counts .names) (plainCall (rulesOf o) counts model)
-plain-holds fold folding t old o counts e model l =
-    let (cs, long, fits, book, is-n, is-m, is-o) = read-calls fold folding .accepts t old o (counts .names) (counts .rules) .0 e in
-    counted-holds fold folding t cs book old long model l (counts .names) (counts .rules) o is-n is-m is-o
+pub plain-holds : (table : List ℕ) (t : Bytes) (old o : Areas) (counts : Counts)
+    → readCall table t old ≡ accepted (counts .names) (counts .rules) o → (model : List ℕ) → rowWords ≤ length model
+    → PlainHolds (letters table) t (o .spellings) (counts .names) (plainCall (rulesOf o) counts model)
+plain-holds table t old o counts e model l =
+    let (cs, long, passes, fits, book, is-n, is-m, is-o) = books-read table .accepts t old o (counts .names) (counts .rules) .0 e in
+    counted-holds (letters table) (passes .1) t cs book old long model l (counts .names) (counts .rules) o is-n is-m is-o
 
 -- So the held names are alike.
 
--- under every two fold numbers
-pub alike : (fold : ℕ → ℕ) → Folding fold → (t : Bytes) (k k′ : ℕ) (old old′ : SolveAreas)
-    → solveCall fold t k old .answer .number ≡ 0 → solveCall fold t k′ old′ .answer .number ≡ 0
-    → (x : Bytes) → Held (solveCall fold t k old) x ↔ Held (solveCall fold t k′ old′) x
-alike fold folding t k k′ old old′ z z′ x =
-    let h = solve-holds fold folding t k old z .holds x in
-    let h′ = solve-holds fold folding t k′ old′ z′ .holds x in
-    (λ e. h′ .1 (h .0 e), λ e. h .1 (h′ .0 e))
+module _ (table : List ℕ) (t : Bytes) (k : ℕ) (old : SolveAreas) (z : solveCall table t k old .answer .number ≡ 0) where
+  -- under every two fold numbers
+  pub alike : (k′ : ℕ) (old′ : SolveAreas) → solveCall table t k′ old′ .answer .number ≡ 0
+      → (x : Bytes) → Held (solveCall table t k old) x ↔ Held (solveCall table t k′ old′) x
+  alike k′ old′ z′ x =
+      let h = solve-holds table t k old z .holds x in
+      let h′ = solve-holds table t k′ old′ z′ .holds x in
+      (λ e. h′ .1 (h .0 e), λ e. h .1 (h′ .0 e))
 
--- and by the plain route
-pub alike-plain : (fold : ℕ → ℕ) → Folding fold → (t : Bytes) (k : ℕ) (old : SolveAreas) → solveCall fold t k old .answer .number ≡ 0
-    → (tables o : Areas) (counts : Counts) → readCall fold t tables ≡ accepted (counts .names) (counts .rules) o
-    → (model : List ℕ) → rowWords ≤ length model
-    → (x : Bytes) → Held (solveCall fold t k old) x ↔ HeldIn (o .spellings) (counts .names) (plainCall (rulesOf o) counts model .model) x
-alike-plain fold folding t k old z tables o counts e model l x =
-    let h = solve-holds fold folding t k old z .holds x in
-    let h′ = plain-holds fold folding t tables o counts e model l .holds x in
-    (λ q. h′ .1 (h .0 q), λ q. h .1 (h′ .0 q))
+  -- and by the plain route
+  pub alike-plain : (tables o : Areas) (counts : Counts) → readCall table t tables ≡ accepted (counts .names) (counts .rules) o
+      → (model : List ℕ) → rowWords ≤ length model
+      → (x : Bytes) → Held (solveCall table t k old) x ↔ HeldIn (o .spellings) (counts .names) (plainCall (rulesOf o) counts model .model) x
+  alike-plain tables o counts e model l x =
+      let h = solve-holds table t k old z .holds x in
+      let h′ = plain-holds table t tables o counts e model l .holds x in
+      (λ q. h′ .1 (h .0 q), λ q. h .1 (h′ .0 q))

@@ -1,4 +1,4 @@
--- The solver's call: each way out, and every number exactly where document 01 gives it.
+-- The solver's call: each way out, and every number exactly where documents 01 and 02 give it.
 -- Assumes nothing.
 use mathlib.Core.Path.{_≡_, refl, sym, ap, _∙_, subst}
 use mathlib.Core.Bool.{Bool, true, false, _||_}
@@ -6,29 +6,31 @@ use mathlib.Core.List.{List, [], _++_}
 use mathlib.Core.Logic.{_↔_, inl, inr}
 use Prim.Native.Nat.{ℕ, _-_, _≤_, _<_}
 use native.Mathlib.Omega.{arith}
-use lib.Dec.{ltb}
+use lib.Dec.{eqb, ltb}
 use lib.ListN.{length, getD, drop, replicate}
-use borrow.Author.Tests.{ltb-true, ltb-false, lt-ltb, le-ltb, le-leb}
+use borrow.Author.Tests.{eqb-true, eqb-false, eq-eqb, ne-eqb, ltb-true, ltb-false, lt-ltb, le-ltb, le-leb}
 use Rattle.limits.specs.Book.{textBytes, names, atoms, folds, rowWords, nameArea, rowArea, listingBytes}
-use Rattle.limits.specs.Cause.{OneOf, lineCauses, textCauses, solveKeptCauses, solveCauses}
+use Rattle.limits.specs.Cause.{OneOf, letterCauses, lineCauses, textCauses, solveKeptCauses, solveCauses}
 use Rattle.limits.proofs.Causes.{without, other, one-found, inside, one-inside, apart, one-apart}
 use Rattle.sets.specs.Set.{pick}
-use Rattle.sets.proofs.Logic.{either, clash, or-none, and-make, holds, fails, pick-true, pick-false}
+use Rattle.sets.proofs.Logic.{either, or-none, and-make, holds, fails, pick-true, pick-false}
 use Rattle.program.specs.Standard.{standard}
-use Rattle.grammar.specs.Bytes.{Bytes, Folding}
+use Rattle.grammar.specs.Bytes.{Bytes, Folding, letters}
+use Rattle.grammar.specs.Letters.{LettersJudged, lettersCause}
+use Rattle.grammar.proofs.Letters.{letters-judged, letters-pass, letters-cause, letters-other, cause-low}
 use Rattle.grammar.specs.Grammar.{Clause}
 use Rattle.tables.specs.Numbering.{namesOf, programOf}
-use Rattle.tables.specs.Reading.{Reading, read, refused, bookOf, reading, Fits, Book, Refusal}
+use Rattle.tables.specs.Reading.{Reading, read, refused, bookOf, Fits, Book, Refusal}
 use Rattle.tables.specs.Areas.{Areas, Outcome, short, nameRows, filledWith, tablesOf, refusal, outcome, readCall, nameAt, lookUp}
 use Rattle.tables.specs.Claims.{zeroed}
-use Rattle.tables.proofs.Calls.{refusal-cause, Placed, refusal-placed, leaves-refusal}
+use Rattle.tables.proofs.Calls.{refusal-cause, Placed, refusal-placed, leaves-refusal, read-ready}
 use Rattle.tables.proofs.Judging.{reading-short}
 use Rattle.tables.proofs.Loop.{read-refused, refused-number, refused-line}
 use Rattle.areas.proofs.Filled.{length-filled, filled-is}
 use Rattle.tables.proofs.Encoding.{AllFine, length-nameRows, name-at, long-enough, not-short}
 use Rattle.tables.proofs.Theorems.{judged, read-fits, read-fine}
-use Rattle.solving.specs.Solve.{SolveAreas, SolveOutcome, shortAreas, solveRefusal, answerOf, solvedAreas, solveRead, solveCall}
-use Rattle.solving.specs.SolveClaims.{SolveLong, InRange, SolveJudges}
+use Rattle.solving.specs.Solve.{SolveAreas, SolveOutcome, shortAreas, solveRefusal, answerOf, solvedAreas, solveRead, solveText, solveCall}
+use Rattle.solving.specs.SolveClaims.{SolveLong, SolveReady, InRange, SolveJudges}
 
 -- Lengths of the areas.
 
@@ -76,28 +78,50 @@ long-areas o h = rw (
 
 -- The ways out of the call.
 
-module _ (fold : ℕ → ℕ) (t : Bytes) (k : ℕ) (old : SolveAreas) where
-  -- an area too short
-  pub solve-short : shortAreas old ≡ true → solveCall fold t k old ≡ solveRefusal 1 0 (old .tables) old
-  unfolding solveCall pick
-  solve-short e = rw e
+module _ (table : List ℕ) (t : Bytes) (k : ℕ) (old : SolveAreas) where
+  -- what is judged first
+  abbrev cause : ℕ
+  cause = lettersCause (shortAreas old) table
 
-  module _ (long : shortAreas old ≡ false) where
+  by-lengths : (shortAreas old ≡ false) ↔ SolveLong old
+  by-lengths = (areas-long old, long-areas old)
+
+  pub solve-cause : (cause ≡ 0 → ⊥) → solveCall table t k old ≡ solveRefusal cause 0 (old .tables) old
+  unfolding solveCall
+  solve-cause some = pick-false (solveText (letters table) t k old) (solveRefusal cause 0 (old .tables) old) (ne-eqb cause 0 some)
+
+  pub solve-short : shortAreas old ≡ true → solveCall table t k old ≡ solveRefusal 1 0 (old .tables) old
+  solve-short e =
+      let one : cause ≡ 1 = cause-low (shortAreas old) table e in
+      solve-cause (λ z. omega (arith, one, z)) ∙ ap (λ (q : ℕ). solveRefusal q 0 (old .tables) old) one
+
+  -- one of these, or areas and table in order
+  pub ready-or : {X : Type 0} → ((cause ≡ 0 → ⊥) → X) → (SolveReady table old → X) → X
+  ready-or first then =
+      either (eqb cause 0) (λ e. then (letters-pass (shortAreas old) by-lengths table .0 (eqb-true cause 0 e))) (λ e. first (eqb-false cause 0 e))
+
+  module _ (ready : SolveReady table old) where
+    pub solve-ready : solveCall table t k old ≡ solveText (letters table) t k old
+    unfolding solveCall
+    solve-ready =
+        pick-true (solveText (letters table) t k old) (solveRefusal cause 0 (old .tables) old)
+        (eq-eqb cause 0 (letters-pass (shortAreas old) by-lengths table .1 ready))
+
     -- a text too long
-    pub solve-long-text : textBytes < length t → solveCall fold t k old ≡ solveRefusal 2 0 (old .tables) old
-    unfolding solveCall pick
-    solve-long-text l = rw (long, lt-ltb textBytes (length t) l)
+    pub solve-long-text : textBytes < length t → solveCall table t k old ≡ solveRefusal 2 0 (old .tables) old
+    unfolding solveText pick
+    solve-long-text l = solve-ready ∙ rw (lt-ltb textBytes (length t) l)
 
     module _ (fits : length t ≤ textBytes) where
       -- folds over 8
-      pub solve-over-folds : folds < k → solveCall fold t k old ≡ solveRefusal 9 0 (old .tables) old
-      unfolding solveCall pick
-      solve-over-folds l = rw (long, le-ltb textBytes (length t) fits, lt-ltb folds k l)
+      pub solve-over-folds : folds < k → solveCall table t k old ≡ solveRefusal 9 0 (old .tables) old
+      unfolding solveText pick
+      solve-over-folds l = solve-ready ∙ rw (le-ltb textBytes (length t) fits, lt-ltb folds k l)
 
       -- else the text
-      pub solve-in-range : k ≤ folds → solveCall fold t k old ≡ solveRead (bookOf fold t) k old
-      unfolding solveCall pick
-      solve-in-range l = rw (long, le-ltb textBytes (length t) fits, le-ltb folds k l)
+      pub solve-in-range : k ≤ folds → solveCall table t k old ≡ solveRead (bookOf (letters table) t) k old
+      unfolding solveText pick
+      solve-in-range l = solve-ready ∙ rw (le-ltb textBytes (length t) fits, le-ltb folds k l)
 
 -- what the solver does with what the text comes to: refused, over 256 atoms, or solved
 pub solve-refused : (number line k : ℕ) (old : SolveAreas)
@@ -166,47 +190,57 @@ module _ (a b : ℕ) (old : SolveAreas) where
   unfolding refusal
   refused-lined p = leaves-refusal (old .tables) a b p .lined
 
-module _ (fold : ℕ → ℕ) (folding : Folding fold) (t : Bytes) (k : ℕ) (old : SolveAreas) where
+module _ (table : List ℕ) (t : Bytes) (k : ℕ) (old : SolveAreas) where
+  abbrev fold : ℕ → ℕ
+  fold = letters table
+
   -- what is claimed of an outcome
   abbrev Judges : SolveOutcome → Type 0
-  Judges = SolveJudges fold t k old
+  Judges = SolveJudges table t k old
 
-  -- what the reader leaves, where areas and text are in range
-  reader-leaves : InRange t k old → (x : Reading) → bookOf fold t ≡ x → readCall fold t (old .tables) ≡ outcome x (old .tables)
-  unfolding readCall
+  -- what the reader leaves, where areas, table and text are in range
+  reader-leaves : InRange table t k old → (x : Reading) → bookOf fold t ≡ x → readCall table t (old .tables) ≡ outcome x (old .tables)
   reader-leaves range x e =
-      pick-false (refusal 1 0 (old .tables)) (outcome (reading fold t) (old .tables)) (long-tables old (range .0))
+      read-ready table t (old .tables) (long-tables old (range .0 .0), range .0 .1)
       ∙ ap (λ (y : Reading). outcome y (old .tables)) (reading-short fold t (range .1) ∙ e)
 
   -- The ways out, each with what it is claimed to be.
 
-  -- an area too short
-  way-short : (SolveLong old → ⊥) → Judges (solveRefusal 1 0 (old .tables) old)
-  unfolding without
-  way-short h = record {
-    accepts = fails (λ z. omega arith) (λ p. h (p .0 .0));
-    short = holds refl h;
-    long-text = fails (λ z. omega arith) (λ p. h (p .0));
-    over-folds = fails (λ z. omega arith) (λ p. h (p .0));
-    text = λ q line m. fails (λ z. other 1 q textCauses refl m (sym (z .0))) (λ p. h (p .0 .0));
-    over-atoms = fails (λ z. omega arith) (λ p. h (p .0 .0));
-    no-other = inr (one-found 1 1 solveCauses refl refl);
-    lined = fails (λ z. z refl) (λ m. other 1 1 lineCauses refl m refl);
-    solved = λ cs b z. absurd (omega arith);
-    kept = λ m. refl;
-    cleared = λ m. absurd (other 1 1 lineCauses refl m refl);
-    left-8 = λ cs b z. absurd (omega arith);
+  -- what is judged first
+  way-first : (q : ℕ) → OneOf q letterCauses → (SolveReady table old → ⊥) → LettersJudged (SolveLong old) table q
+      → Judges (solveRefusal q 0 (old .tables) old)
+  unfolding inside apart without
+  way-first q m h first = record {
+    accepts = fails (other 0 q letterCauses refl m) (λ p. h (p .0 .0));
+    letters-judged = first;
+    long-text = fails (other 2 q letterCauses refl m) (λ p. h (p .0));
+    over-folds = fails (other 9 q letterCauses refl m) (λ p. h (p .0));
+    text = λ a line i. fails (λ z. one-apart q letterCauses textCauses refl m (subst (λ (n : ℕ). OneOf n textCauses) (sym (z .0)) i)) (λ p. h (p .0 .0));
+    over-atoms = fails (other 8 q letterCauses refl m) (λ p. h (p .0 .0));
+    no-other = inr (one-inside q letterCauses solveCauses refl m);
+    lined = fails (λ z. z refl) (one-apart q letterCauses lineCauses refl m);
+    solved = λ cs b z. absurd (other 0 q letterCauses refl m z);
+    kept = λ i. refl;
+    cleared = λ i. absurd (one-apart q letterCauses lineCauses refl m i);
+    left-8 = λ cs b z. absurd (other 8 q letterCauses refl m z);
     as-read = λ range. absurd (h (range .0));
   }
 
-  module _ (long : SolveLong old) where
+  module _ (ready : SolveReady table old) where
+    folding : Folding fold
+    folding = ready .1 .1
+
+    -- a number that is judged later
+    later : (q : ℕ) → (OneOf q letterCauses → ⊥) → LettersJudged (SolveLong old) table q
+    later q = letters-other table q (ready .0) (ready .1)
+
     -- a text too long
     way-long : textBytes < length t → Judges (solveRefusal 2 0 (old .tables) old)
     unfolding without
     way-long l = record {
       accepts = fails (λ z. omega arith) (λ p. omega (arith, p .0 .1));
-      short = fails (λ z. omega arith) (λ h. h long);
-      long-text = holds refl (long, l);
+      letters-judged = later 2 (λ m. other 2 2 letterCauses refl m refl);
+      long-text = holds refl (ready, l);
       over-folds = fails (λ z. omega arith) (λ p. omega (arith, p .1));
       text = λ q line m. fails (λ z. other 2 q textCauses refl m (sym (z .0))) (λ p. omega (arith, p .0 .1));
       over-atoms = fails (λ z. omega arith) (λ p. omega (arith, p .0 .1));
@@ -225,9 +259,9 @@ module _ (fold : ℕ → ℕ) (folding : Folding fold) (t : Bytes) (k : ℕ) (ol
       unfolding without
       way-folds l = record {
         accepts = fails (λ z. omega arith) (λ p. omega (arith, p .0 .2));
-        short = fails (λ z. omega arith) (λ h. h long);
+        letters-judged = later 9 (λ m. other 9 9 letterCauses refl m refl);
         long-text = fails (λ z. omega arith) (λ p. omega (arith, p .1));
-        over-folds = holds refl (long, fits, l);
+        over-folds = holds refl (ready, fits, l);
         text = λ q line m. fails (λ z. other 9 q textCauses refl m (sym (z .0))) (λ p. omega (arith, p .0 .2));
         over-atoms = fails (λ z. omega arith) (λ p. omega (arith, p .0 .2));
         no-other = inr (one-found 9 9 solveCauses refl refl);
@@ -241,8 +275,8 @@ module _ (fold : ℕ → ℕ) (folding : Folding fold) (t : Bytes) (k : ℕ) (ol
 
       module _ (few : k ≤ folds) where
         -- areas, text and folds in range
-        abbrev range : InRange t k old
-        range = (long, fits, few)
+        abbrev range : InRange table t k old
+        range = (ready, fits, few)
 
         module _ (a b : ℕ) (e : bookOf fold t ≡ refused a b) where
           -- a text refused is no book
@@ -251,13 +285,13 @@ module _ (fold : ℕ → ℕ) (folding : Folding fold) (t : Bytes) (k : ℕ) (ol
 
           -- it has that refusal alone
           way-refused : Judges (solveRefusal a b (refusal a b (old .tables) .areas) old)
-          unfolding outcome without inside
+          unfolding outcome without inside apart
           way-refused =
               let m : OneOf a textCauses = refusal-cause fold t a b (judged fold folding .refuses t a b .0 e) in
               let placed : Placed a b = refusal-placed fold t a b (judged fold folding .refuses t a b .0 e) in
               record {
                 accepts = fails (other 0 a textCauses refl m) (λ p. no-book (p .1 .0) (p .1 .1));
-                short = fails (other 1 a textCauses refl m) (λ h. h long);
+                letters-judged = later a (λ i. one-apart a letterCauses textCauses refl i m);
                 long-text = fails (other 2 a textCauses refl m) (λ p. omega (arith, p .1));
                 over-folds = fails (other 9 a textCauses refl m) (λ p. omega (arith, p .2));
                 text = λ q line n. (
@@ -297,7 +331,7 @@ module _ (fold : ℕ → ℕ) (folding : Folding fold) (t : Bytes) (k : ℕ) (ol
           unfolding outcome without
           way-over l = record {
             accepts = fails (λ z. omega arith) (λ p. omega (arith, p .1 .2, same-atoms (p .1 .0) (p .1 .1)));
-            short = fails (λ z. omega arith) (λ h. h long);
+            letters-judged = later 8 (λ m. other 8 8 letterCauses refl m refl);
             long-text = fails (λ z. omega arith) (λ p. omega (arith, p .1));
             over-folds = fails (λ z. omega arith) (λ p. omega (arith, p .2));
             text = λ q line m. fails (λ z. other 8 q textCauses refl m (sym (z .0))) (λ p. no-refusal q line (p .1));
@@ -316,7 +350,7 @@ module _ (fold : ℕ → ℕ) (folding : Folding fold) (t : Bytes) (k : ℕ) (ol
           unfolding outcome answerOf solvedAreas without
           way-solved l = record {
             accepts = holds refl (range, (cs, book, l));
-            short = fails (λ z. omega arith) (λ h. h long);
+            letters-judged = later 0 (λ m. other 0 0 letterCauses refl m refl);
             long-text = fails (λ z. omega arith) (λ p. omega (arith, p .1));
             over-folds = fails (λ z. omega arith) (λ p. omega (arith, p .2));
             text = λ q line m. fails (λ z. other 0 q textCauses refl m (sym (z .0))) (λ p. no-refusal q line (p .1));
@@ -340,49 +374,54 @@ module _ (fold : ℕ → ℕ) (folding : Folding fold) (t : Bytes) (k : ℕ) (ol
             (λ u. subst Judges (sym (solve-solved cs k old (ltb-false atoms m u))) (way-solved cs e (ltb-false atoms m u)))
 
   -- what is claimed of the solver's call
-  pub solve-judges : SolveJudges fold t k old (solveCall fold t k old)
+  pub solve-judges : SolveJudges table t k old (solveCall table t k old)
   solve-judges =
-      either (shortAreas old)
-      (λ e. subst Judges (sym (solve-short fold t k old e)) (way-short (λ long. clash e (long-areas old long))))
-      (λ e.
-      let long : SolveLong old = areas-long old e in
+      ready-or table t k old
+      (λ some.
+      let q : ℕ = lettersCause (shortAreas old) table in
+      let lengths : (shortAreas old ≡ false) ↔ SolveLong old = by-lengths table t k old in
+      subst Judges (sym (solve-cause table t k old some))
+      (way-first q (letters-cause (shortAreas old) lengths table some) (λ ready. some (letters-pass (shortAreas old) lengths table .1 ready))
+      (letters-judged (shortAreas old) lengths table)))
+      (λ ready.
       either (ltb textBytes (length t))
       (λ l.
       let over : textBytes < length t = ltb-true textBytes (length t) l in
-      subst Judges (sym (solve-long-text fold t k old e over)) (way-long long over))
+      subst Judges (sym (solve-long-text table t k old ready over)) (way-long ready over))
       (λ l.
       let fits : length t ≤ textBytes = ltb-false textBytes (length t) l in
       either (ltb folds k)
       (λ f.
       let over : folds < k = ltb-true folds k f in
-      subst Judges (sym (solve-over-folds fold t k old e fits over)) (way-folds long fits over))
+      subst Judges (sym (solve-over-folds table t k old ready fits over)) (way-folds ready fits over))
       (λ f.
       let few : k ≤ folds = ltb-false folds k f in
-      subst Judges (sym (solve-in-range fold t k old e fits few)) (by-reading long fits few (bookOf fold t) refl))))
+      subst Judges (sym (solve-in-range table t k old ready fits few)) (by-reading ready fits few (bookOf fold t) refl))))
 
 -- everything known of an accepted call
-pub record Solved (fold : ℕ → ℕ) (t : Bytes) (k : ℕ) (old : SolveAreas) : Type 0 where
+pub record Solved (table : List ℕ) (t : Bytes) (k : ℕ) (old : SolveAreas) : Type 0 where
+  pub folding : Folding (letters table)
   pub cs : List Clause
-  pub book : Book fold t cs
-  pub reads : bookOf fold t ≡ read cs
+  pub book : Book (letters table) t cs
+  pub reads : bookOf (letters table) t ≡ read cs
   pub fits : Fits cs
-  pub range : InRange t k old
+  pub range : InRange table t k old
   pub few : standard (programOf cs) .atoms ≤ atoms
-  pub is : solveCall fold t k old ≡ record { answer = answerOf (programOf cs) k; areas = solvedAreas cs k old }
+  pub is : solveCall table t k old ≡ record { answer = answerOf (programOf cs) k; areas = solvedAreas cs k old }
 
 -- what is known where the number is 0
-pub solved-of : (fold : ℕ → ℕ) → Folding fold → (t : Bytes) (k : ℕ) (old : SolveAreas)
-    → solveCall fold t k old .answer .number ≡ 0 → Solved fold t k old
-solved-of fold folding t k old z =
-    let j : SolveJudges fold t k old (solveCall fold t k old) = solve-judges fold folding t k old in
-    let cs : List Clause = j .accepts .0 z .1 .0 in
-    let book : Book fold t cs = j .accepts .0 z .1 .1 in
+pub solved-of : (table : List ℕ) (t : Bytes) (k : ℕ) (old : SolveAreas) → solveCall table t k old .answer .number ≡ 0 → Solved table t k old
+solved-of table t k old z =
+    let j : SolveJudges table t k old (solveCall table t k old) = solve-judges table t k old in
+    let (range, (cs, book, few)) = j .accepts .0 z in
+    let folding : Folding (letters table) = range .0 .1 .1 in
     record {
+      folding = folding;
       cs = cs;
       book = book;
-      reads = judged fold folding .accepted t cs .1 book;
+      reads = judged (letters table) folding .accepted t cs .1 book;
       fits = book .fits;
-      range = j .accepts .0 z .0;
-      few = j .accepts .0 z .1 .2;
+      range = range;
+      few = few;
       is = j .solved cs book z;
     }

@@ -14,7 +14,7 @@ use Rattle.program.specs.System.{System, round, folded, roundsOf, heldBy}
 use Rattle.program.specs.Standard.{standard}
 use Rattle.program.specs.Claims.{AfterFolds}
 use Rattle.program.proofs.Theorems.{after-folds, standard-regular}
-use Rattle.grammar.specs.Bytes.{Bytes, Folding}
+use Rattle.grammar.specs.Bytes.{Bytes, Folding, letters}
 use Rattle.grammar.specs.Grammar.{Clause, joined}
 use Rattle.tables.specs.Numbering.{namesOf, numbered, programOf}
 use Rattle.tables.specs.Reading.{Fits, Book}
@@ -108,26 +108,26 @@ solved-past cs k old fits short l few =
     }
 
 -- what lies past the stated sizes is as it was, however the call ends
-pub solve-past : (fold : ℕ → ℕ) → Folding fold → (t : Bytes) (k : ℕ) (old : SolveAreas) → SolvePast old (solveCall fold t k old .areas)
-solve-past fold folding t k old =
-    let r : SolveOutcome = solveCall fold t k old in
-    let j : SolveJudges fold t k old r = solve-judges fold folding t k old in
+pub solve-past : (table : List ℕ) (t : Bytes) (k : ℕ) (old : SolveAreas) → SolvePast old (solveCall table t k old .areas)
+solve-past table t k old =
+    let fold : ℕ → ℕ = letters table in
+    let r : SolveOutcome = solveCall table t k old in
+    let j : SolveJudges table t k old r = solve-judges table t k old in
     let n : ℕ = r .answer .number in
     let P : SolveOutcome → Type 0 = λ x. SolvePast old (x .areas) in
-    let fit : (cs : List Clause) → Book fold t cs → AllFit (namesOf cs) =
-    λ cs b a l. read-fine fold folding t cs (judged fold folding .accepted t cs .1 b) a l .0
+    let fit : Folding fold → (cs : List Clause) → Book fold t cs → AllFit (namesOf cs) =
+    λ folding cs b a l. read-fine fold folding t cs (judged fold folding .accepted t cs .1 b) a l .0
     in
     ⊎-elim
     (λ z.
-    let s : Solved fold t k old = solved-of fold folding t k old z in
-    subst P (sym (s .is)) (solved-past (s .cs) k old (s .fits) (fit (s .cs) (s .book)) (s .range .2) (s .few)))
+    let s : Solved table t k old = solved-of table t k old z in
+    subst P (sym (s .is)) (solved-past (s .cs) k old (s .fits) (fit (s .folding) (s .cs) (s .book)) (s .range .2) (s .few)))
     (λ m.
     solve-left n m
     (λ i. subst P (sym (j .kept i)) (refused-past n 0 (old .tables) old (refl, refl, refl)))
     (λ i. subst P (sym (j .cleared i)) (refused-past n (r .answer .line) (zeroed (old .tables)) old (zeroed-past (old .tables))))
     (λ z.
-    let cs : List Clause = j .over-atoms .0 z .1 .0 in
-    let b : Book fold t cs = j .over-atoms .0 z .1 .1 in
+    let (range, (cs, b, more)) = j .over-atoms .0 z in
     subst P (sym (j .left-8 cs b z))
-    (refused-past 8 0 (tablesOf cs (old .tables)) old (tables-past cs (old .tables) (b .fits) (fit cs b)))))
+    (refused-past 8 0 (tablesOf cs (old .tables)) old (tables-past cs (old .tables) (b .fits) (fit (range .0 .1 .1) cs b)))))
     (j .no-other)

@@ -11,7 +11,7 @@ use Rattle.program.specs.System.{System, folded, anyHead, heldBy, c, h}
 use Rattle.program.specs.Standard.{anyRow, standard}
 use Rattle.program.specs.Claims.{AfterFolds}
 use Rattle.program.proofs.Theorems.{standard-regular, after-folds}
-use Rattle.grammar.specs.Bytes.{Bytes, Folding}
+use Rattle.grammar.specs.Bytes.{Bytes, letters}
 use Rattle.grammar.specs.Grammar.{Clause}
 use Rattle.tables.specs.Numbering.{programOf}
 use Rattle.tables.specs.Reading.{Book}
@@ -103,10 +103,10 @@ module _ (cs : List Clause) (k : ℕ) (old : SolveAreas) (few : standard (progra
       }
 
 -- the field `rounds` of the demands
-pub solve-rounds : (fold : ℕ → ℕ) → Folding fold → (t : Bytes) (k : ℕ) (old : SolveAreas) (cs : List Clause) → Book fold t cs
-    → solveCall fold t k old .answer .number ≡ 0 → SolveRounds cs k (solveCall fold t k old)
-solve-rounds fold folding t k old cs book z =
-    let s : Solved fold t k old = solved-of fold folding t k old z in
-    let one : s .cs ≡ cs = same-book fold folding t (s .cs) cs (s .book) book in
-    subst (λ (ds : List Clause). SolveRounds ds k (solveCall fold t k old)) one
+pub solve-rounds : (table : List ℕ) (t : Bytes) (k : ℕ) (old : SolveAreas) (cs : List Clause) → Book (letters table) t cs
+    → solveCall table t k old .answer .number ≡ 0 → SolveRounds cs k (solveCall table t k old)
+solve-rounds table t k old cs book z =
+    let s : Solved table t k old = solved-of table t k old z in
+    let one : s .cs ≡ cs = same-book (letters table) (s .folding) t (s .cs) cs (s .book) book in
+    subst (λ (ds : List Clause). SolveRounds ds k (solveCall table t k old)) one
     (subst (SolveRounds (s .cs) k) (sym (s .is)) (rounds-claim (s .cs) k old (s .few)))

@@ -1,16 +1,20 @@
 -- What lies past the stated sizes of the solver's areas is neither judged nor touched.
 -- Assumes nothing.
 use mathlib.Core.Path.{_≡_, refl, ap, ap₂, _∙_}
-use mathlib.Core.Bool.{_||_}
-use mathlib.Core.List.{List, [], _++_, map}
+use mathlib.Core.Bool.{Bool, _||_}
+use mathlib.Core.List.{List, [], map}
 use Prim.Native.Nat.{ℕ}
-use lib.ListN.{take, drop}
-use Rattle.limits.specs.Book.{rules, bodyArea, rowWords, rowArea, listingBytes}
-use Rattle.sets.specs.Set.{count}
+use lib.Dec.{eqb}
+use lib.ListN.{take}
+use Rattle.limits.specs.Book.{letterBytes, rules, bodyArea, rowWords, rowArea, listingBytes}
+use Rattle.sets.specs.Set.{pick, count}
 use Rattle.program.specs.Program.{Program, plainHeld, plainRounds}
 use Rattle.program.specs.System.{System, folded, roundsOf, heldBy}
 use Rattle.program.specs.Standard.{standard}
+use Rattle.grammar.specs.Bytes.{Bytes, letters}
+use Rattle.grammar.specs.Letters.{lettersCause}
 use Rattle.grammar.specs.Grammar.{Clause, joined}
+use Rattle.grammar.proofs.Letters.{letters-first, cause-first}
 use Rattle.tables.specs.Numbering.{namesOf, numbered, programOf}
 use Rattle.tables.specs.Reading.{Reading, read, refused, bookOf}
 use Rattle.tables.specs.Areas.{Areas, Outcome, tablesOf, refusal, programIn}
@@ -23,7 +27,7 @@ use Rattle.systems.proofs.Bridge.{formed-limits}
 use Rattle.systems.proofs.Sizes.{with-model-first, formed-tables-first, program-first}
 use Rattle.solving.specs.Plain.{PlainOutcome, shortPlain, plainRefusal, plainOf, plainCall}
 use Rattle.solving.specs.Listing.{listingLines, listed}
-use Rattle.solving.specs.Solve.{SolveAreas, SolveOutcome, shortAreas, refusalAnswer, solveRefusal, answerOf, solvedAreas, solveRead, solveCall}
+use Rattle.solving.specs.Solve.{SolveAreas, SolveOutcome, shortAreas, refusalAnswer, solveRefusal, answerOf, solvedAreas, solveRead, solveText, solveCall}
 use Rattle.solving.specs.Sizes.{cutAreas, areasWithRest, solveWithRest, SolveSizes, plainWithRest, PlainSizes}
 
 module _ (old : SolveAreas) where
@@ -82,16 +86,35 @@ module _ (old : SolveAreas) where
       (λ t. refused-first 8 0 (tablesOf cs (old .tables)) (tablesOf cs (statedTables (old .tables))) (book-first cs))
       (ap (λ (o : SolveAreas). record { answer = answerOf (programOf cs) k; areas = o }) (solved-first cs k))
 
--- the call
-pub solve-sizes : (fold : ℕ → ℕ) → SolveSizes fold
-unfolding solveCall
-solve-sizes fold t k old =
-    let rest : SolveOutcome → SolveOutcome = solveWithRest old in
-    let refused : (n : ℕ) → solveRefusal n 0 (old .tables) old ≡ rest (solveRefusal n 0 (statedTables (old .tables)) (cutAreas old)) =
-    λ n. refused-first old n 0 (old .tables) (statedTables (old .tables)) (tables-both (old .tables))
-    in
-    pick-first rest (areas-short old) (λ s. refused 1)
-    (pick-first rest refl (λ s. refused 2) (pick-first rest refl (λ s. refused 9) (read-first old (bookOf fold t) k)))
+module _ (table : List ℕ) (t : Bytes) (k : ℕ) (old : SolveAreas) where
+  abbrev rest : SolveOutcome → SolveOutcome
+  rest = solveWithRest old
+
+  kept-first : (n : ℕ) → solveRefusal n 0 (old .tables) old ≡ rest (solveRefusal n 0 (statedTables (old .tables)) (cutAreas old))
+  kept-first n = refused-first old n 0 (old .tables) (statedTables (old .tables)) (tables-both (old .tables))
+
+  -- the call on areas cut to their sizes, under the same table
+  pub areas-first : solveCall table t k old ≡ rest (solveCall table t k (cutAreas old))
+  unfolding solveCall solveText
+  areas-first =
+      let same : lettersCause (shortAreas old) table ≡ lettersCause (shortAreas (cutAreas old)) table =
+      ap (λ (s : Bool). lettersCause s table) (areas-short old) in
+      pick-first rest (ap (λ (q : ℕ). eqb q 0) same)
+      (λ e.
+      pick-first rest refl (λ s. kept-first 2) (pick-first rest refl (λ s. kept-first 9) (read-first old (bookOf (letters table) t) k)))
+      (kept-first (lettersCause (shortAreas old) table)
+      ∙ ap (λ (q : ℕ). rest (solveRefusal q 0 (statedTables (old .tables)) (cutAreas old))) same)
+
+  -- and under the table's first 256 bytes
+  table-first : solveCall table t k old ≡ solveCall (take letterBytes table) t k old
+  unfolding solveCall
+  table-first =
+      ap₂ (λ (q : ℕ) (f : ℕ → ℕ). pick (eqb q 0) (solveText f t k old) (solveRefusal q 0 (old .tables) old))
+      (cause-first table (shortAreas old)) (letters-first table)
+
+-- both
+pub solve-sizes : (table : List ℕ) → SolveSizes table
+solve-sizes table t k old = areas-first table t k old ∙ ap (solveWithRest old) (table-first table t k (cutAreas old))
 
 -- the plain route
 module _ (model : List ℕ) where

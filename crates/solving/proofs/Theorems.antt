@@ -1,8 +1,7 @@
--- Demands 1 and 3, each one claim of specs/Claims.antt, for any folding of names that obeys the rule; and with document 01's letters.
+-- Demands 1 and 3, each one claim of specs/Claims.antt, for any lent folding table.
 -- Assumes nothing.
+use mathlib.Core.List.{List}
 use Prim.Native.Nat.{ℕ}
-use Rattle.grammar.specs.Bytes.{Folding, ourLetters}
-use Rattle.grammar.proofs.Folding.{folding as ours}
 use Rattle.solving.specs.Claims.{Demands}
 use Rattle.solving.proofs.Judging as Judging
 use Rattle.solving.proofs.Past as Past
@@ -13,22 +12,18 @@ use Rattle.solving.proofs.Lists as Lists
 use Rattle.solving.proofs.Rounds as Rounds
 use Rattle.solving.proofs.Plain as Plain
 
-pub demands : (fold : ℕ → ℕ) → Folding fold → Demands fold
-demands fold folding = record {
-  judges = Judging.solve-judges fold folding;
-  untouched = Past.solve-past fold folding;
-  sizes = Sizes.solve-sizes fold;
-  holds = Holds.solve-holds fold folding;
+pub books-solved : (table : List ℕ) → Demands table
+books-solved table = record {
+  judges = Judging.solve-judges table;
+  untouched = Past.solve-past table;
+  sizes = Sizes.solve-sizes table;
+  holds = Holds.solve-holds table;
   decimals = Decimal.decimals;
-  lists = Lists.solve-lists fold folding;
-  rounds = Rounds.solve-rounds fold folding;
+  lists = Lists.solve-lists table;
+  rounds = Rounds.solve-rounds table;
   plain-calls = Plain.plain-calls;
   plain-sizes = Sizes.plain-sizes;
-  plain-holds = Holds.plain-holds fold folding;
-  alike = Holds.alike fold folding;
-  alike-plain = Holds.alike-plain fold folding;
+  plain-holds = Holds.plain-holds table;
+  alike = λ t k k′ old old′ z. Holds.alike table t k old z k′ old′;
+  alike-plain = Holds.alike-plain table;
 }
-
--- as the calls' contracts have them
-pub books-solved : Demands ourLetters
-books-solved = demands ourLetters ours

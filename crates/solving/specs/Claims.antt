@@ -1,5 +1,5 @@
--- Demands 1 and 3, all claims together. Proved in proofs/Theorems.antt, for any folding of names that obeys the rule, any text, any fold
--- number and areas with any old contents. "Accepted" is: the number is 0.
+-- Demands 1 and 3, all claims together. Proved in proofs/Theorems.antt, for any lent folding table, any text, any fold number and areas with any
+-- old contents. "Accepted" is: the number is 0.
 -- Assumes nothing.
 use mathlib.Core.Path.{_≡_}
 use mathlib.Core.Logic.{_↔_}
@@ -7,7 +7,7 @@ use mathlib.Core.List.{List}
 use Prim.Native.Nat.{ℕ, _≤_}
 use lib.ListN.{length}
 use Rattle.limits.specs.Book.{rowWords}
-use Rattle.grammar.specs.Bytes.{Bytes}
+use Rattle.grammar.specs.Bytes.{Bytes, letters}
 use Rattle.grammar.specs.Grammar.{Clause}
 use Rattle.tables.specs.Reading.{Book}
 use Rattle.tables.specs.Areas.{Areas, RuleTables, Counts, rulesOf, readCall, programIn}
@@ -21,28 +21,28 @@ use Rattle.solving.specs.SolveClaims.{SolveJudges, SolvePast, SolveHolds
 use Rattle.solving.specs.Sizes.{SolveSizes, PlainSizes}
 use Rattle.solving.specs.ListingClaims.{Decimal, Lists}
 
--- All of demands 1 and 3, for every text, fold number and old contents of the areas.
-pub record Demands (fold : ℕ → ℕ) : Type 0 where
+-- All of demands 1 and 3 with a table lent, for every text, fold number and old contents of the areas.
+pub record Demands (table : List ℕ) : Type 0 where
   pub decimals : (n : ℕ) → Decimal n (decimal n)
-  pub judges : (t : Bytes) (k : ℕ) (old : SolveAreas) → SolveJudges fold t k old (solveCall fold t k old)
-  pub untouched : (t : Bytes) (k : ℕ) (old : SolveAreas) → SolvePast old (solveCall fold t k old .areas)
-  pub sizes : SolveSizes fold
-  pub holds : (t : Bytes) (k : ℕ) (old : SolveAreas) → solveCall fold t k old .answer .number ≡ 0
-      → SolveHolds fold t (solveCall fold t k old)
-  pub lists : (t : Bytes) (k : ℕ) (old : SolveAreas) → solveCall fold t k old .answer .number ≡ 0
-      → Lists (solveCall fold t k old) k (old .listing)
-  pub rounds : (t : Bytes) (k : ℕ) (old : SolveAreas) (cs : List Clause) → Book fold t cs
-      → solveCall fold t k old .answer .number ≡ 0 → SolveRounds cs k (solveCall fold t k old)
+  pub judges : (t : Bytes) (k : ℕ) (old : SolveAreas) → SolveJudges table t k old (solveCall table t k old)
+  pub untouched : (t : Bytes) (k : ℕ) (old : SolveAreas) → SolvePast old (solveCall table t k old .areas)
+  pub sizes : SolveSizes table
+  pub holds : (t : Bytes) (k : ℕ) (old : SolveAreas) → solveCall table t k old .answer .number ≡ 0
+      → SolveHolds (letters table) t (solveCall table t k old)
+  pub lists : (t : Bytes) (k : ℕ) (old : SolveAreas) → solveCall table t k old .answer .number ≡ 0
+      → Lists (solveCall table t k old) k (old .listing)
+  pub rounds : (t : Bytes) (k : ℕ) (old : SolveAreas) (cs : List Clause) → Book (letters table) t cs
+      → solveCall table t k old .answer .number ≡ 0 → SolveRounds cs k (solveCall table t k old)
   pub plain-calls : (tables : RuleTables) (counts : Counts) (model : List ℕ)
       → PlainCalls tables counts model (programIn tables counts) (plainCall tables counts model)
   pub plain-sizes : PlainSizes
-  pub plain-holds : (t : Bytes) (old o : Areas) (counts : Counts) → readCall fold t old ≡ accepted (counts .names) (counts .rules) o
-      → (model : List ℕ) → rowWords ≤ length model → PlainHolds fold t (o .spellings) (counts .names) (plainCall (rulesOf o) counts model)
+  pub plain-holds : (t : Bytes) (old o : Areas) (counts : Counts) → readCall table t old ≡ accepted (counts .names) (counts .rules) o
+      → (model : List ℕ) → rowWords ≤ length model → PlainHolds (letters table) t (o .spellings) (counts .names) (plainCall (rulesOf o) counts model)
   -- so the held names are alike under every two fold numbers, and by the plain route
   pub alike : (t : Bytes) (k k′ : ℕ) (old old′ : SolveAreas)
-      → solveCall fold t k old .answer .number ≡ 0 → solveCall fold t k′ old′ .answer .number ≡ 0
-      → (x : Bytes) → Held (solveCall fold t k old) x ↔ Held (solveCall fold t k′ old′) x
-  pub alike-plain : (t : Bytes) (k : ℕ) (old : SolveAreas) → solveCall fold t k old .answer .number ≡ 0
-      → (tables o : Areas) (counts : Counts) → readCall fold t tables ≡ accepted (counts .names) (counts .rules) o
+      → solveCall table t k old .answer .number ≡ 0 → solveCall table t k′ old′ .answer .number ≡ 0
+      → (x : Bytes) → Held (solveCall table t k old) x ↔ Held (solveCall table t k′ old′) x
+  pub alike-plain : (t : Bytes) (k : ℕ) (old : SolveAreas) → solveCall table t k old .answer .number ≡ 0
+      → (tables o : Areas) (counts : Counts) → readCall table t tables ≡ accepted (counts .names) (counts .rules) o
       → (model : List ℕ) → rowWords ≤ length model
-      → (x : Bytes) → Held (solveCall fold t k old) x ↔ HeldIn (o .spellings) (counts .names) (plainCall (rulesOf o) counts model .model) x
+      → (x : Bytes) → Held (solveCall table t k old) x ↔ HeldIn (o .spellings) (counts .names) (plainCall (rulesOf o) counts model .model) x

@@ -5,7 +5,7 @@ use mathlib.Core.Path.{_≡_}
 use mathlib.Core.List.{List, _++_}
 use Prim.Native.Nat.{ℕ}
 use lib.ListN.{take, drop}
-use Rattle.limits.specs.Book.{rowWords, rowArea, listingBytes}
+use Rattle.limits.specs.Book.{letterBytes, rowWords, rowArea, listingBytes}
 use Rattle.grammar.specs.Bytes.{Bytes}
 use Rattle.tables.specs.Areas.{RuleTables, Counts}
 use Rattle.tables.specs.Sizes.{statedTables, statedRules, tablesWithRest}
@@ -40,10 +40,12 @@ areasWithRest o s =
 abbrev pub solveWithRest : SolveAreas → SolveOutcome → SolveOutcome
 solveWithRest o r = record { answer = r .answer; areas = areasWithRest o (r .areas) }
 
--- what lies past the stated sizes is neither judged nor touched: the call is the call on areas cut to them, with the rest put after
-abbrev pub SolveSizes : (ℕ → ℕ) → Type 0
-SolveSizes fold =
-    (t : Bytes) (k : ℕ) (old : SolveAreas) → solveCall fold t k old ≡ solveWithRest old (solveCall fold t k (cutAreas old))
+-- what lies past the stated sizes is neither judged nor touched: the call is the call on areas cut to them, with the rest put after; and it goes
+-- by the first 256 bytes of the folding table alone
+abbrev pub SolveSizes : List ℕ → Type 0
+SolveSizes table =
+    (t : Bytes) (k : ℕ) (old : SolveAreas)
+    → solveCall table t k old ≡ solveWithRest old (solveCall (take letterBytes table) t k (cutAreas old))
 
 -- what the plain route returns and leaves of areas cut so, with what was cut off put after
 abbrev pub plainWithRest : List ℕ → PlainOutcome → PlainOutcome

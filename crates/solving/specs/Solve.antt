@@ -4,7 +4,7 @@
 use mathlib.Core.Bool.{Bool, _||_}
 use mathlib.Core.List.{List, []}
 use Prim.Native.Nat.{ℕ}
-use lib.Dec.{ltb}
+use lib.Dec.{eqb, ltb}
 use lib.ListN.{length}
 use Rattle.limits.specs.Book.{textBytes, atoms, folds, rowWords, rowArea, listingBytes}
 use Rattle.sets.specs.Set.{pick, count}
@@ -12,7 +12,8 @@ use Rattle.program.specs.Program.{Program}
 use Rattle.program.specs.System.{System, folded, roundsOf, heldBy}
 use Rattle.program.specs.System as System
 use Rattle.program.specs.Standard.{standard}
-use Rattle.grammar.specs.Bytes.{Bytes}
+use Rattle.grammar.specs.Bytes.{Bytes, letters}
+use Rattle.grammar.specs.Letters.{lettersCause}
 use Rattle.grammar.specs.Grammar.{Clause}
 use Rattle.tables.specs.Numbering.{namesOf, programOf}
 use Rattle.tables.specs.Reading.{Reading, read, refused, bookOf}
@@ -110,10 +111,15 @@ solveRead (read cs) k old =
     pick (ltb atoms (standard (programOf cs) .atoms)) (solveRefusal 8 0 (tablesOf cs (old .tables)) old)
     (record { answer = answerOf (programOf cs) k; areas = solvedAreas cs k old })
 
--- areas too short, text too long, folds over 8; then the text
-unfoldable pub solveCall : (ℕ → ℕ) → Bytes → ℕ → SolveAreas → SolveOutcome
-solveCall fold t k old =
-    pick (shortAreas old) (solveRefusal 1 0 (old .tables) old)
-    (pick (ltb textBytes (length t)) (solveRefusal 2 0 (old .tables) old)
+-- with areas and table in order: text too long, folds over 8; then the text
+unfoldable pub solveText : (ℕ → ℕ) → Bytes → ℕ → SolveAreas → SolveOutcome
+solveText fold t k old =
+    pick (ltb textBytes (length t)) (solveRefusal 2 0 (old .tables) old)
     (pick (ltb folds k) (solveRefusal 9 0 (old .tables) old)
-    (solveRead (bookOf fold t) k old)))
+    (solveRead (bookOf fold t) k old))
+
+-- the solver, lent a folding table: areas too short and the table come first, then the text by the table's letters
+unfoldable pub solveCall : List ℕ → Bytes → ℕ → SolveAreas → SolveOutcome
+solveCall table t k old =
+    let cause : ℕ = lettersCause (shortAreas old) table in
+    pick (eqb cause 0) (solveText (letters table) t k old) (solveRefusal cause 0 (old .tables) old)

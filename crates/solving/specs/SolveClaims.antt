@@ -14,7 +14,8 @@ use Rattle.sets.specs.Steps.{First}
 use Rattle.program.specs.System.{round, folded, roundsOf, heldBy}
 use Rattle.program.specs.System as System
 use Rattle.program.specs.Standard.{standard}
-use Rattle.grammar.specs.Bytes.{Bytes}
+use Rattle.grammar.specs.Bytes.{Bytes, letters}
+use Rattle.grammar.specs.Letters.{FoldTable, LettersJudged}
 use Rattle.grammar.specs.Grammar.{Clause}
 use Rattle.tables.specs.Numbering.{namesOf, programOf}
 use Rattle.tables.specs.Reading.{Book, Refusal}
@@ -39,28 +40,33 @@ pub record SolveLong (o : SolveAreas) : Type 0 where
   pub model : rowWords ≤ length (o .model)
   pub listing : listingBytes ≤ length (o .listing)
 
--- areas, text and fold number are in range
-abbrev pub InRange : Bytes → ℕ → SolveAreas → Type 0
-InRange t k old = SolveLong old × (length t ≤ textBytes) × (k ≤ folds)
+-- so are they, and the folding table passes
+abbrev pub SolveReady : List ℕ → SolveAreas → Type 0
+SolveReady table old = SolveLong old × FoldTable table
 
--- each number exactly where document 01 gives it, and what is left then: r is what the call returns and leaves
-pub record SolveJudges (fold : ℕ → ℕ) (t : Bytes) (k : ℕ) (old : SolveAreas) (r : SolveOutcome) : Type 0 where
+-- areas, table, text and fold number are in range
+abbrev pub InRange : List ℕ → Bytes → ℕ → SolveAreas → Type 0
+InRange table t k old = SolveReady table old × (length t ≤ textBytes) × (k ≤ folds)
+
+-- each number exactly where documents 01 and 02 give it, and what is left then: r is what the call returns and leaves
+pub record SolveJudges (table : List ℕ) (t : Bytes) (k : ℕ) (old : SolveAreas) (r : SolveOutcome) : Type 0 where
   pub accepts : (r .answer .number ≡ 0)
-      ↔ (InRange t k old × ((cs : List Clause) × Book fold t cs × (standard (programOf cs) .atoms ≤ atoms)))
-  pub short : (r .answer .number ≡ 1) ↔ (SolveLong old → ⊥)
-  pub long-text : (r .answer .number ≡ 2) ↔ (SolveLong old × (textBytes < length t))
-  pub over-folds : (r .answer .number ≡ 9) ↔ (SolveLong old × (length t ≤ textBytes) × (folds < k))
+      ↔ (InRange table t k old × ((cs : List Clause) × Book (letters table) t cs × (standard (programOf cs) .atoms ≤ atoms)))
+  -- 1, 20, 21
+  pub letters-judged : LettersJudged (SolveLong old) table (r .answer .number)
+  pub long-text : (r .answer .number ≡ 2) ↔ (SolveReady table old × (textBytes < length t))
+  pub over-folds : (r .answer .number ≡ 9) ↔ (SolveReady table old × (length t ≤ textBytes) × (folds < k))
   -- those of a text with their line, as the grammar says
   pub text : (q line : ℕ) → OneOf q textCauses
-      → ((r .answer .number ≡ q) × (r .answer .line ≡ line)) ↔ (InRange t k old × Refusal fold t q line)
+      → ((r .answer .number ≡ q) × (r .answer .line ≡ line)) ↔ (InRange table t k old × Refusal (letters table) t q line)
   pub over-atoms : (r .answer .number ≡ 8)
-      ↔ (InRange t k old × ((cs : List Clause) × Book fold t cs × (atoms < standard (programOf cs) .atoms)))
+      ↔ (InRange table t k old × ((cs : List Clause) × Book (letters table) t cs × (atoms < standard (programOf cs) .atoms)))
   -- 0 and these are all its numbers: 10, 11 and 12 cannot occur
   pub no-other : (r .answer .number ≡ 0) ⊎ OneOf (r .answer .number) solveCauses
   -- a line comes with exactly these
   pub lined : (r .answer .line ≡ 0 → ⊥) ↔ OneOf (r .answer .number) lineCauses
   -- what is returned and left, on acceptance
-  pub solved : (cs : List Clause) → Book fold t cs → r .answer .number ≡ 0
+  pub solved : (cs : List Clause) → Book (letters table) t cs → r .answer .number ≡ 0
       → r ≡ record { answer = answerOf (programOf cs) k; areas = solvedAreas cs k old }
   -- "number, zeros", "all as it was"
   pub kept : OneOf (r .answer .number) solveKeptCauses → r ≡ solveRefusal (r .answer .number) 0 (old .tables) old
@@ -68,9 +74,9 @@ pub record SolveJudges (fold : ℕ → ℕ) (t : Bytes) (k : ℕ) (old : SolveAr
   pub cleared : OneOf (r .answer .number) lineCauses
       → r ≡ solveRefusal (r .answer .number) (r .answer .line) (zeroed (old .tables)) old
   -- "number, zeros", "names, rules as read; others as they were"
-  pub left-8 : (cs : List Clause) → Book fold t cs → r .answer .number ≡ 8 → r ≡ solveRefusal 8 0 (tablesOf cs (old .tables)) old
+  pub left-8 : (cs : List Clause) → Book (letters table) t cs → r .answer .number ≡ 8 → r ≡ solveRefusal 8 0 (tablesOf cs (old .tables)) old
   -- names and rules are as the reader leaves them, whenever it is reached
-  pub as-read : InRange t k old → r .areas .tables ≡ readCall fold t (old .tables) .areas
+  pub as-read : InRange table t k old → r .areas .tables ≡ readCall table t (old .tables) .areas
 
 -- what lies past the stated sizes is as it was, on acceptance and on every refusal
 pub record SolvePast (old : SolveAreas) (o : SolveAreas) : Type 0 where

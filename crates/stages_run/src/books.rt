@@ -1,6 +1,7 @@
 // A book: standardised, and from there folded and run for each number of folds.
 use crate::calls;
 use limits::Book;
+use scan::table::folding;
 use trial::areas::Area;
 use trial::print;
 
@@ -35,7 +36,8 @@ pub fn show(text: &[u8]) {
     let mut spellings = [Area::MARK8; Area::SPELLINGS];
     let mut heads = [Area::MARK16; Area::HEADS];
     let mut bodies = [Area::MARK64; Area::BODIES];
-    let r = reader::read(text, &mut spellings, &mut heads, &mut bodies);
+    let table = folding();
+    let r = reader::read(text, &table, &mut spellings, &mut heads, &mut bodies);
     if r.number != 0 {
         print::line(b"no book");
     } else if standardised(&heads, &bodies, r.names, r.rules) {

@@ -4,7 +4,7 @@ ghost use mathlib.Core.Path.{_≡_};
 ghost use Prim.Native.Nat.{_≤_};
 ghost use lib.ListN.{length};
 ghost use Rattle.limits.specs.Book.{nameArea, rules, bodyArea};
-ghost use Rattle.scan.specs.Fold.{FoldTable};
+ghost use Rattle.grammar.specs.Letters.{FoldTable};
 ghost use Rattle.grammar.specs.Bytes.{letters};
 ghost use Rattle.tables.specs.Writing.{wellFormed};
 

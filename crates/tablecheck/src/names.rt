@@ -9,7 +9,7 @@ ghost use lib.ListN.{length};
 ghost use Rattle.limits.specs.Book.{names, nameBytes, nameArea};
 ghost use Rattle.sets.specs.Set.{every};
 ghost use Rattle.areas.specs.Area.{part};
-ghost use Rattle.scan.specs.Fold.{FoldTable};
+ghost use Rattle.grammar.specs.Letters.{FoldTable};
 ghost use Rattle.grammar.specs.Bytes.{letters, allOf};
 ghost use Rattle.tables.specs.Numbering.{sameBytes};
 ghost use Rattle.tables.specs.Areas.{nameAt};

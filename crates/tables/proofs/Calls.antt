@@ -1,21 +1,24 @@
 -- The reader's call: what it answers and leaves, by the grammar.
 -- Assumes nothing.
 use mathlib.Core.Path.{_≡_, refl, sym, ap, _∙_, subst}
-use mathlib.Core.Bool.{true, false}
-use mathlib.Core.Logic.{_⊎_, inl, inr}
+use mathlib.Core.Bool.{false}
+use mathlib.Core.Logic.{_⊎_, _↔_, inl, inr, ⊎-elim}
 use mathlib.Core.List.{List, []}
-use Prim.Native.Nat.{ℕ, _≤_}
+use Prim.Native.Nat.{ℕ, _≤_, _<_}
 use native.Mathlib.Omega.{arith}
 use lib.ListN.{length}
-use borrow.Author.Tests.{ne-eqb}
+use lib.Dec.{eqb}
+use borrow.Author.Tests.{eqb-true, eqb-false, eq-eqb, ne-eqb}
 use Rattle.limits.specs.Book.{textBytes}
-use Rattle.limits.specs.Cause.{OneOf, faultCauses, fullCauses, lineCauses, wholeCauses, textCauses, keptCauses}
-use Rattle.limits.proofs.Causes.{without, other, one-found, apart, one-apart, one-left, one-right}
+use Rattle.limits.specs.Cause.{OneOf, letterCauses, faultCauses, fullCauses, lineCauses, wholeCauses, textCauses, keptCauses}
+use Rattle.limits.proofs.Causes.{without, other, one-found, inside, one-inside, apart, one-apart, one-left, one-right}
 use Rattle.sets.specs.Set.{pick}
 use Rattle.sets.proofs.Logic.{either, holds, fails, pick-true, pick-false}
-use Rattle.grammar.specs.Bytes.{Bytes}
+use Rattle.grammar.specs.Bytes.{Bytes, letters}
+use Rattle.grammar.specs.Letters.{FoldTable, LettersJudged, lettersCause}
 use Rattle.grammar.specs.Grammar.{Clause}
 use Rattle.grammar.proofs.Forms.{fault-cause}
+use Rattle.grammar.proofs.Letters.{letters-judged, letters-pass, letters-cause, letters-other}
 use Rattle.tables.specs.Numbering.{namesOf}
 use Rattle.tables.specs.Reading.{Reading, read, refused, reading, Book, Barred, Refusal}
 use Rattle.areas.specs.Area.{filled}
@@ -39,10 +42,6 @@ outcome-read cs old = refl
 outcome-refused : (k line : ℕ) (old : Areas) → outcome (refused k line) old ≡ refusal k line old
 unfolding outcome
 outcome-refused k line old = refl
-
--- 1 is not 0
-not-one : (k : ℕ) → k ≡ 1 → k ≡ 0 → ⊥
-not-one k a b = omega arith
 
 -- a line that is refused has one of the causes of a line
 pub barred-cause : (fold : ℕ → ℕ) (cs : List Clause) (s : Bytes) (q : ℕ) → Barred fold cs s q → OneOf q lineCauses
@@ -128,133 +127,178 @@ module _ (old : Areas) where
         cleared = λ i. absurd (other 0 0 lineCauses refl i refl);
       }
 
-module _ (fold : ℕ → ℕ) (judge : Reads fold) (t : Bytes) (old : Areas) where
-  -- areas too short, and long enough
-  on-short : short old ≡ true → readCall fold t old ≡ refusal 1 0 old
-  unfolding readCall
-  on-short e = pick-true (refusal 1 0 old) (outcome (reading fold t) old) e
+-- what is judged first, where the areas are long enough
+module _ (table : List ℕ) (old : Areas) where
+  abbrev cause : ℕ
+  cause = lettersCause (short old) table
 
-  on-long : short old ≡ false → readCall fold t old ≡ outcome (reading fold t) old
+  abbrev Ready : Type 0
+  Ready = (short old ≡ false) × FoldTable table
+
+  same-test : (short old ≡ false) ↔ (short old ≡ false)
+  same-test = (λ e. e, λ e. e)
+
+  pub read-pass : (cause ≡ 0) ↔ Ready
+  read-pass = letters-pass (short old) same-test table
+
+  read-cause : (cause ≡ 0 → ⊥) → OneOf cause letterCauses
+  read-cause = letters-cause (short old) same-test table
+
+-- an area too short or a table that does not pass; else what the text comes to
+module _ (table : List ℕ) (t : Bytes) (old : Areas) where
+  pub read-first : (cause table old ≡ 0 → ⊥) → readCall table t old ≡ refusal (cause table old) 0 old
   unfolding readCall
-  on-long e = pick-false (refusal 1 0 old) (outcome (reading fold t) old) e
+  read-first some = pick-false (outcome (reading (letters table) t) old) (refusal (cause table old) 0 old) (ne-eqb (cause table old) 0 some)
+
+  pub read-ready : Ready table old → readCall table t old ≡ outcome (reading (letters table) t) old
+  unfolding readCall
+  read-ready ready =
+      pick-true (outcome (reading (letters table) t) old) (refusal (cause table old) 0 old) (eq-eqb (cause table old) 0 (read-pass table old .1 ready))
+
+module _ (table : List ℕ) (judge : FoldTable table → Reads (letters table)) (t : Bytes) (old : Areas) where
+  abbrev fold : ℕ → ℕ
+  fold = letters table
+
+  -- one or the other
+  ready-or : {X : Type 0} → ((cause table old ≡ 0 → ⊥) → X) → (Ready table old → X) → X
+  ready-or first then =
+      either (eqb (cause table old) 0) (λ e. then (read-pass table old .0 (eqb-true (cause table old) 0 e)))
+      (λ e. first (eqb-false (cause table old) 0 e))
 
   -- the call on a book, and on a text that is refused
-  on-read : (cs : List Clause) → short old ≡ false → reading fold t ≡ read cs
-      → readCall fold t old ≡ accepted (length (namesOf cs)) (length cs) (tablesOf cs old)
-  on-read cs l e = on-long l ∙ ap (λ (x : Reading). outcome x old) e ∙ outcome-read cs old
+  on-read : (cs : List Clause) → Ready table old → reading fold t ≡ read cs
+      → readCall table t old ≡ accepted (length (namesOf cs)) (length cs) (tablesOf cs old)
+  on-read cs l e = read-ready table t old l ∙ ap (λ (x : Reading). outcome x old) e ∙ outcome-read cs old
 
-  on-refused : (k line : ℕ) → short old ≡ false → reading fold t ≡ refused k line → readCall fold t old ≡ refusal k line old
-  on-refused k line l e = on-long l ∙ ap (λ (x : Reading). outcome x old) e ∙ outcome-refused k line old
+  on-refused : (k line : ℕ) → Ready table old → reading fold t ≡ refused k line → readCall table t old ≡ refusal k line old
+  on-refused k line l e = read-ready table t old l ∙ ap (λ (x : Reading). outcome x old) e ∙ outcome-refused k line old
 
   -- a refusal and another outcome have the same number
-  number-of : (k line : ℕ) (x : Outcome) → readCall fold t old ≡ refusal k line old → readCall fold t old ≡ x → k ≡ x .answer .number
+  number-of : (k line : ℕ) (x : Outcome) → readCall table t old ≡ refusal k line old → readCall table t old ≡ x → k ≡ x .answer .number
   number-of k line x e q = sym (refusal-number k line old) ∙ ap (λ (y : Outcome). y .answer .number) (sym e ∙ q)
-
-  line-of : (k line : ℕ) (x : Outcome) → readCall fold t old ≡ refusal k line old → readCall fold t old ≡ x → line ≡ x .answer .line
-  line-of k line x e q = sym (refusal-line k line old) ∙ ap (λ (y : Outcome). y .answer .line) (sym e ∙ q)
 
   Accepts : Areas → ℕ → ℕ → Type 0
   Accepts o n m =
-      (cs : List Clause) × (short old ≡ false) × (length t ≤ textBytes) × Book fold t cs
+      (cs : List Clause) × (short old ≡ false) × FoldTable table × (length t ≤ textBytes) × Book fold t cs
       × (n ≡ length (namesOf cs)) × (m ≡ length cs) × (o ≡ tablesOf cs old)
 
-  -- where the call accepts, the areas are long enough
-  long-enough : (o : Areas) (n m : ℕ) → readCall fold t old ≡ accepted n m o → short old ≡ false
-  long-enough o n m e =
-      either (short old)
-      (λ s. absurd (not-one 1 refl (number-of 1 0 (accepted n m o) (on-short s) e)))
-      (λ s. s)
+  -- where the call accepts, the areas are long enough and the table passes
+  now-ready : (o : Areas) (n m : ℕ) → readCall table t old ≡ accepted n m o → Ready table old
+  now-ready o n m e = ready-or (λ some. absurd (some (number-of (cause table old) 0 (accepted n m o) (read-first table t old some) e))) (λ l. l)
 
-  to-book : (o : Areas) (n m : ℕ) → readCall fold t old ≡ accepted n m o → short old ≡ false → (x : Reading) → reading fold t ≡ x → Accepts o n m
+  to-book : (o : Areas) (n m : ℕ) → readCall table t old ≡ accepted n m o → Ready table old → (x : Reading) → reading fold t ≡ x → Accepts o n m
   unfolding Accepts
   to-book o n m e l (read cs) q =
       let y : accepted n m o ≡ accepted (length (namesOf cs)) (length cs) (tablesOf cs old) = sym e ∙ on-read cs l q in
-      let j : (length t ≤ textBytes) × Book fold t cs = judge .accepts t cs .0 q in
-      (cs, l, j .0, j .1, ap (λ (z : Outcome). z .answer .names) y, ap (λ (z : Outcome). z .answer .rules) y, ap (λ (z : Outcome). z .areas) y)
+      let j : (length t ≤ textBytes) × Book fold t cs = judge (l .1) .accepts t cs .0 q in
+      (cs, l .0, l .1, j .0, j .1, ap (λ (z : Outcome). z .answer .names) y, ap (λ (z : Outcome). z .answer .rules) y, ap (λ (z : Outcome). z .areas) y)
   to-book o n m e l (refused k line) q =
-      absurd (cause-number fold t k line (judge .refuses t k line .0 q) (number-of k line (accepted n m o) (on-refused k line l q) e))
+      absurd (cause-number fold t k line (judge (l .1) .refuses t k line .0 q) (number-of k line (accepted n m o) (on-refused k line l q) e))
 
-  from-book : (o : Areas) (n m : ℕ) → Accepts o n m → readCall fold t old ≡ accepted n m o
+  from-book : (o : Areas) (n m : ℕ) → Accepts o n m → readCall table t old ≡ accepted n m o
   unfolding Accepts
-  from-book o n m (cs, l, fits, book, a, b, c) =
-      on-read cs l (judge .accepts t cs .1 (fits, book))
+  from-book o n m (cs, l, passes, fits, book, a, b, c) =
+      on-read cs (l, passes) (judge passes .accepts t cs .1 (fits, book))
       ∙ ap (λ (i : ℕ). accepted i (length cs) (tablesOf cs old)) (sym a) ∙ ap (λ (i : ℕ). accepted n i (tablesOf cs old)) (sym b)
       ∙ ap (λ (x : Areas). accepted n m x) (sym c)
 
   -- the number and the line of the call
   Answered : ℕ → ℕ → Type 0
-  Answered k line = (readCall fold t old .answer .number ≡ k) × (readCall fold t old .answer .line ≡ line)
+  Answered k line = (readCall table t old .answer .number ≡ k) × (readCall table t old .answer .line ≡ line)
 
-  answered : (k line : ℕ) → readCall fold t old ≡ refusal k line old → Answered k line
+  answered : (k line : ℕ) → readCall table t old ≡ refusal k line old → Answered k line
   unfolding Answered
   answered k line e = (
     ap (λ (x : Outcome). x .answer .number) e ∙ refusal-number k line old,
     ap (λ (x : Outcome). x .answer .line) e ∙ refusal-line k line old,
   )
 
-  Refused : ℕ → ℕ → Type 0
-  Refused k line = ((short old ≡ true) × (k ≡ 1) × (line ≡ 0)) ⊎ ((short old ≡ false) × Refuses fold t k line)
+  -- the numbers that are judged first: by what is judged first, or else by a number that is none of them
+  apart-text : (x : Reading) → reading fold t ≡ x → Ready table old → OneOf (readCall table t old .answer .number) letterCauses → ⊥
+  unfolding Answered apart without
+  apart-text (read cs) q l i = other 0 _ letterCauses refl i (ap (λ (x : Outcome). x .answer .number) (on-read cs l q))
+  apart-text (refused k line) q l i =
+      let is : Answered k line = answered k line (on-refused k line l q) in
+      let here : OneOf k letterCauses = subst (λ (n : ℕ). OneOf n letterCauses) (is .0) i in
+      ⊎-elim (λ (x : (textBytes < length t) × (k ≡ 2) × (line ≡ 0)). other 2 k letterCauses refl here (x .1))
+      (λ x. one-apart k letterCauses textCauses refl here (refusal-cause fold t k line (x .1)))
+      (judge (l .1) .refuses t k line .0 q)
 
-  by-reading : (k line : ℕ) → (k ≡ 0 → ⊥) → Answered k line → short old ≡ false → (x : Reading) → reading fold t ≡ x → Refuses fold t k line
+  judged-first : LettersJudged (short old ≡ false) table (readCall table t old .answer .number)
+  unfolding Answered
+  judged-first =
+      ready-or
+      (λ some.
+      subst (LettersJudged (short old ≡ false) table) (sym (answered (cause table old) 0 (read-first table t old some) .0))
+      (letters-judged (short old) (same-test table old) table))
+      (λ l. letters-other table (readCall table t old .answer .number) (l .0) (l .1) (apart-text (reading fold t) refl l))
+
+  Refused : ℕ → ℕ → Type 0
+  Refused k line = (short old ≡ false) × FoldTable table × Refuses fold t k line
+
+  by-reading : (k line : ℕ) → (k ≡ 0 → ⊥) → Answered k line → Ready table old → (x : Reading) → reading fold t ≡ x → Refuses fold t k line
   unfolding Answered
   by-reading k line some e l (read cs) q = absurd (some (sym (e .0) ∙ ap (λ (x : Outcome). x .answer .number) (on-read cs l q)))
   by-reading k line some e l (refused i j) q =
       let is : Answered i j = answered i j (on-refused i j l q) in
       let a : i ≡ k = sym (is .0) ∙ e .0 in
       let b : j ≡ line = sym (is .1) ∙ e .1 in
-      judge .refuses t k line .0 (q ∙ ap (λ (n : ℕ). refused n j) a ∙ ap (λ (n : ℕ). refused k n) b)
+      judge (l .1) .refuses t k line .0 (q ∙ ap (λ (n : ℕ). refused n j) a ∙ ap (λ (n : ℕ). refused k n) b)
 
-  to-cause : (k line : ℕ) → (k ≡ 0 → ⊥) → Answered k line → Refused k line
+  to-cause : (k line : ℕ) → (k ≡ 0 → ⊥) → (OneOf k letterCauses → ⊥) → Answered k line → Refused k line
   unfolding Refused Answered
-  to-cause k line some e =
-      either (short old)
-      (λ s. let is : Answered 1 0 = answered 1 0 (on-short s) in inl (s, sym (e .0) ∙ is .0, sym (e .1) ∙ is .1))
-      (λ s. inr (s, by-reading k line some e s (reading fold t) refl))
+  to-cause k line some later e =
+      ready-or
+      (λ first.
+      let is : Answered (cause table old) 0 = answered (cause table old) 0 (read-first table t old first) in
+      absurd (later (subst (λ (n : ℕ). OneOf n letterCauses) (sym (is .0) ∙ e .0) (read-cause table old first))))
+      (λ l. (l .0, l .1, by-reading k line some e l (reading fold t) refl))
 
   from-cause : (k line : ℕ) → Refused k line → Answered k line
   unfolding Refused
-  from-cause k line (inl x) =
-      answered k line (on-short (x .0) ∙ ap (λ (n : ℕ). refusal n 0 old) (sym (x .1)) ∙ ap (λ (n : ℕ). refusal k n old) (sym (x .2)))
-  from-cause k line (inr x) = answered k line (on-refused k line (x .0) (judge .refuses t k line .1 (x .1)))
+  from-cause k line (l, passes, x) = answered k line (on-refused k line (l, passes) (judge passes .refuses t k line .1 x))
 
   -- what it returns and leaves
-  leaves-reading : short old ≡ false → (x : Reading) → reading fold t ≡ x → ReadLeaves old (readCall fold t old)
+  leaves-reading : Ready table old → (x : Reading) → reading fold t ≡ x → ReadLeaves old (readCall table t old)
   leaves-reading l (read cs) q = subst (ReadLeaves old) (sym (on-read cs l q)) (leaves-accepted old (length (namesOf cs)) (length cs) (tablesOf cs old))
   leaves-reading l (refused k line) q =
-      subst (ReadLeaves old) (sym (on-refused k line l q)) (leaves-refusal old k line (refuses-placed fold t k line (judge .refuses t k line .0 q)))
+      subst (ReadLeaves old) (sym (on-refused k line l q)) (leaves-refusal old k line (refuses-placed fold t k line (judge (l .1) .refuses t k line .0 q)))
 
-  leaves-call : ReadLeaves old (readCall fold t old)
-  unfolding without
+  leaves-call : ReadLeaves old (readCall table t old)
+  unfolding inside without
   leaves-call =
-      either (short old)
-      (λ s. subst (ReadLeaves old) (sym (on-short s)) (leaves-kept old 1 (one-found 1 1 keptCauses refl refl)))
-      (λ s. leaves-reading s (reading fold t) refl)
+      ready-or
+      (λ some.
+      subst (ReadLeaves old) (sym (read-first table t old some))
+      (leaves-kept old (cause table old) (one-inside (cause table old) letterCauses keptCauses refl (read-cause table old some))))
+      (λ l. leaves-reading l (reading fold t) refl)
 
   -- a call is one or the other
   Either : Type 0
   Either =
-      ((n : ℕ) × (m : ℕ) × (o : Areas) × (readCall fold t old ≡ accepted n m o))
-      ⊎ ((k : ℕ) × (line : ℕ) × (k ≡ 0 → ⊥) × (readCall fold t old ≡ refusal k line old))
+      ((n : ℕ) × (m : ℕ) × (o : Areas) × (readCall table t old ≡ accepted n m o))
+      ⊎ ((k : ℕ) × (line : ℕ) × (k ≡ 0 → ⊥) × (readCall table t old ≡ refusal k line old))
 
-  by-text : short old ≡ false → (x : Reading) → reading fold t ≡ x → Either
+  by-text : Ready table old → (x : Reading) → reading fold t ≡ x → Either
   unfolding Either
   by-text l (read cs) q = inl (length (namesOf cs), length cs, tablesOf cs old, on-read cs l q)
-  by-text l (refused k line) q = inr (k, line, cause-number fold t k line (judge .refuses t k line .0 q), on-refused k line l q)
+  by-text l (refused k line) q = inr (k, line, cause-number fold t k line (judge (l .1) .refuses t k line .0 q), on-refused k line l q)
 
   one-or-other : Either
   unfolding Either
-  one-or-other = either (short old) (λ s. inr (1, 0, not-one 1 refl, on-short s)) (λ s. by-text s (reading fold t) refl)
+  one-or-other = ready-or (λ some. inr (cause table old, 0, some, read-first table t old some)) (λ l. by-text l (reading fold t) refl)
 
--- what the call accepts and refuses is what the grammar says
-pub read-calls : (fold : ℕ → ℕ) → Reads fold → ReadCalls fold
+-- what the call accepts and refuses is what the grammar says, under a table that passes
+pub read-calls : (table : List ℕ) → (FoldTable table → Reads (letters table)) → ReadCalls table
 unfolding Accepts Answered Refused Either
-read-calls fold judge =
+read-calls table judge =
     record {
       accepts = λ t old o n m. (
-        λ e. to-book fold judge t old o n m e (long-enough fold judge t old o n m e) (reading fold t) refl,
-        from-book fold judge t old o n m,
+        λ e. to-book table judge t old o n m e (now-ready table judge t old o n m e) (reading (letters table) t) refl,
+        from-book table judge t old o n m,
       );
-      refuses = λ t old k line some. (to-cause fold judge t old k line some, from-cause fold judge t old k line);
-      leaves = leaves-call fold judge;
-      every-call = one-or-other fold judge;
+      letters-judged = judged-first table judge;
+      refuses = λ t old k line some later. (to-cause table judge t old k line some later, from-cause table judge t old k line);
+      leaves = leaves-call table judge;
+      every-call = one-or-other table judge;
     }

@@ -10,7 +10,7 @@ use lib.Dec.{eqb, leb, ltb}
 use lib.ListN.{length, take, drop, length-take}
 use lib.Seq.{getD-take}
 use borrow.Author.Tests.{ltb-true, lt-ltb, leb-true}
-use Rattle.limits.specs.Book.{textBytes, names, nameBytes, rules, bodyWords, nameArea, bodyArea}
+use Rattle.limits.specs.Book.{textBytes, letterBytes, names, nameBytes, rules, bodyWords, nameArea, bodyArea}
 use Rattle.sets.specs.Set.{pick, every}
 use Rattle.sets.proofs.Logic.{either, iff, and-left, and-right, pick-true, pick-false}
 use Rattle.sets.proofs.Tests.{every-same}
@@ -18,13 +18,15 @@ use Rattle.areas.specs.Area.{part, filled}
 use Rattle.areas.proofs.First.{both-parts, part-first, filled-first}
 use Rattle.words.specs.Row.{row}
 use Rattle.program.specs.Program.{Rule}
-use Rattle.grammar.specs.Bytes.{Bytes, allOf}
+use Rattle.grammar.specs.Bytes.{Bytes, letters, allOf}
+use Rattle.grammar.specs.Letters.{lettersCause}
+use Rattle.grammar.proofs.Letters.{letters-first, cause-first}
 use Rattle.grammar.specs.Lines.{run}
 use Rattle.tables.specs.Numbering.{sameBytes, namesOf, numbered}
 use Rattle.tables.specs.Reading.{Reading, read, refused, reading}
 use Rattle.tables.specs.Areas.{Areas, nameRows, headRows, bodyRows, filledWith, tablesOf, short, refusal, outcome, readCall}
 use Rattle.tables.specs.Areas.{RuleTables, rulesOf, nonzero, nameAt, namesFrom, namesIn, ruleAt, rulesFrom, rulesIn}
-use Rattle.tables.specs.Writing.{written, own, zeroFrom, goodName, different, numbersIn, orderly, metIn, wellFormed, Written, placed, writeCall}
+use Rattle.tables.specs.Writing.{written, own, zeroFrom, goodName, different, numbersIn, orderly, metIn, wellFormed, Written, unwritten, placed, writeCall}
 use Rattle.tables.specs.Sizes.{statedTables, statedRules, tablesWithRest, readWithRest, writtenWithRest, TableSizes}
 
 -- the first entries of an area are too few where it is too short
@@ -93,9 +95,19 @@ module _ (old : Areas) where
       ap (λ (o : Areas). record { answer = record { number = 0; line = 0; names = length (namesOf cs); rules = length cs }; areas = o })
       (tables-filled (namesOf cs) (map (numbered (namesOf cs)) cs))
 
-  read-first : (fold : ℕ → ℕ) (t : Bytes) → readCall fold t old ≡ readWithRest old (readCall fold t (statedTables old))
+  read-first : (table : List ℕ) (t : Bytes)
+      → readCall table t old ≡ readWithRest old (readCall (take letterBytes table) t (statedTables old))
   unfolding readCall
-  read-first fold t = pick-first (readWithRest old) tables-short (λ s. refusal-first 1 0) (outcome-first (reading fold t))
+  read-first table t =
+      let cut : List ℕ = take letterBytes table in
+      let same : lettersCause (short old) table ≡ lettersCause (short (statedTables old)) cut =
+      ap (λ (s : Bool). lettersCause s table) tables-short ∙ cause-first table (short (statedTables old))
+      in
+      pick-first (readWithRest old) (ap (λ (q : ℕ). eqb q 0) same)
+      (λ e. outcome-first (reading (letters table) t)
+      ∙ ap (λ (f : ℕ → ℕ). readWithRest old (outcome (reading f t) (statedTables old))) (letters-first table))
+      (refusal-first (lettersCause (short old) table) 0
+      ∙ ap (λ (q : ℕ). readWithRest old (refusal q 0 (statedTables old))) same)
 
 -- The writer.
 
@@ -183,20 +195,29 @@ placed-first w area =
     pick-first (writtenWithRest area) refl (λ t i. record { number = 12; size = 0; text = both-parts textBytes area i })
     (λ i. record { number = 0; size = length w; text = filled-first textBytes w area i })
 
-write-first : (fold : ℕ → ℕ) (o : Areas) (n m : ℕ) (area : Bytes)
-    → writeCall fold o n m area ≡ writtenWithRest area (writeCall fold (statedTables o) n m (take textBytes area))
+write-first : (table : List ℕ) (o : Areas) (n m : ℕ) (area : Bytes)
+    → writeCall table o n m area ≡ writtenWithRest area (writeCall (take letterBytes table) (statedTables o) n m (take textBytes area))
 unfolding writeCall
-write-first fold o n m area =
+write-first table o n m area =
+    let cut : List ℕ = take letterBytes table in
+    let front : Bytes = take textBytes area in
     let rest : Written → Written = writtenWithRest area in
-    let refused : (k : ℕ) → record { number = k; size = 0; text = area } ≡ rest (record { number = k; size = 0; text = take textBytes area }) =
-    λ k i. record { number = k; size = 0; text = both-parts textBytes area i }
+    let same : lettersCause (short o || ltb (length area) textBytes) table ≡ lettersCause (short (statedTables o) || ltb (length front) textBytes) cut =
+    ap₂ (λ (a b : Bool). lettersCause (a || b) table) (tables-short o) (short-first textBytes area)
+    ∙ cause-first table (short (statedTables o) || ltb (length front) textBytes)
     in
-    pick-first rest (ap₂ _||_ (tables-short o) (short-first textBytes area)) (λ t. refused 1)
-    (pick-first rest (formed-first fold o n m)
+    let refused : (k : ℕ) → unwritten k area ≡ rest (unwritten k front) = λ k i. record { number = k; size = 0; text = both-parts textBytes area i } in
+    let formed : wellFormed (letters table) o n m ≡ wellFormed (letters cut) (statedTables o) n m =
+    formed-first (letters table) o n m ∙ ap (λ (f : ℕ → ℕ). wellFormed f (statedTables o) n m) (letters-first table)
+    in
+    pick-first rest (ap (λ (q : ℕ). eqb q 0) same)
+    (λ e.
+    pick-first rest formed
     (λ t. placed-first (written (namesIn (o .spellings) n) (rulesIn (rulesOf o) m)) area
-    ∙ ap (λ (w : Bytes). rest (placed w (take textBytes area))) (text-first fold o n m t))
+    ∙ ap (λ (w : Bytes). rest (placed w front)) (text-first (letters table) o n m t))
     (refused 10))
+    (refused (lettersCause (short o || ltb (length area) textBytes) table) ∙ ap (λ (q : ℕ). rest (unwritten q front)) same)
 
 -- the two calls
-pub table-sizes : (fold : ℕ → ℕ) → TableSizes fold
-table-sizes fold = record { reader = λ t old. read-first old fold t; writer = write-first fold }
+pub table-sizes : (table : List ℕ) → TableSizes table
+table-sizes table = record { reader = λ t old. read-first old table t; writer = write-first table }

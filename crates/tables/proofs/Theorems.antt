@@ -5,10 +5,9 @@ use mathlib.Core.List.{List, [], _∷_}
 use Prim.Native.Nat.{ℕ, _<_, _≤_}
 use lib.ListN.{length, getD}
 use Rattle.limits.specs.Book.{names, rules}
-use Rattle.grammar.specs.Bytes.{Bytes, Folding, ourLetters, Among}
+use Rattle.grammar.specs.Bytes.{Bytes, Folding, letters, Among}
 use Rattle.grammar.specs.Grammar.{Clause, rule}
 use Rattle.grammar.specs.Lines.{formOf}
-use Rattle.grammar.proofs.Folding.{folding as ours}
 use Rattle.grammar.proofs.Theorems.{classified, cut}
 use Rattle.tables.specs.Numbering.{standing, namesOf}
 use Rattle.tables.specs.Reading.{read, bookOf}
@@ -28,13 +27,9 @@ judged fold folding = judging.judging fold (classified fold folding) cut
 pub reads : (fold : ℕ → ℕ) → Folding fold → Reads fold
 reads fold folding = judging.within-length fold (classified fold folding) cut
 
--- and so does the reader's call, areas included
-pub read-calls : (fold : ℕ → ℕ) → Folding fold → ReadCalls fold
-read-calls fold folding = calls.read-calls fold (reads fold folding)
-
--- with document 01's letters: demand 1 for reading, and that the tables read are exactly those of the grammar
-pub books-read : ReadCalls ourLetters
-books-read = read-calls ourLetters ours
+-- and so does the reader's call, areas included, with any table lent: demand 1 for reading, and that the tables read are exactly those of the grammar
+pub books-read : (table : List ℕ) → ReadCalls table
+books-read table = calls.read-calls table (λ passes. reads (letters table) (passes .1))
 
 module _ (fold : ℕ → ℕ) (folding : Folding fold) where
   -- what is read fits

@@ -10,7 +10,8 @@ use Rattle.sets.specs.Set.{pick}
 use Rattle.areas.specs.Area.{part, filled}
 use Rattle.words.specs.Row.{row, pack}
 use Rattle.program.specs.Program.{Rule, Program}
-use Rattle.grammar.specs.Bytes.{Bytes}
+use Rattle.grammar.specs.Bytes.{Bytes, letters}
+use Rattle.grammar.specs.Letters.{lettersCause}
 use Rattle.grammar.specs.Grammar.{Clause}
 use Rattle.grammar.specs.Lines.{run}
 use Rattle.tables.specs.Numbering.{namesOf, numbered}
@@ -105,9 +106,11 @@ outcome (read cs) old =
       areas = tablesOf cs old;
     }
 
--- the reader: areas too short come first
-unfoldable pub readCall : (ℕ → ℕ) → Bytes → Areas → Outcome
-readCall fold t old = pick (short old) (refusal 1 0 old) (outcome (reading fold t) old)
+-- the reader, lent a folding table: areas too short and the table come first, then the text by the table's letters
+unfoldable pub readCall : List ℕ → Bytes → Areas → Outcome
+readCall table t old =
+    let cause : ℕ = lettersCause (short old) table in
+    pick (eqb cause 0) (outcome (reading (letters table) t) old) (refusal cause 0 old)
 
 -- a byte that is not zero
 unfoldable pub nonzero : ℕ → Bool

@@ -2,14 +2,15 @@
 -- Assumes nothing.
 use mathlib.Core.Path.{_≡_}
 use mathlib.Core.Logic.{_⊎_, _↔_}
-use mathlib.Core.Bool.{true, false}
+use mathlib.Core.Bool.{false}
 use mathlib.Core.List.{List, [], _∷_, _++_}
 use Prim.Native.Nat.{ℕ, _<_, _≤_}
 use lib.ListN.{length, getD, drop, replicate}
 use Rattle.limits.specs.Book.{textBytes, rules, nameArea, bodyArea}
-use Rattle.limits.specs.Cause.{OneOf, lineCauses, keptCauses, readCauses}
+use Rattle.limits.specs.Cause.{OneOf, letterCauses, lineCauses, keptCauses, readCauses}
 use Rattle.program.specs.Program.{WellFormed}
-use Rattle.grammar.specs.Bytes.{Bytes, Among}
+use Rattle.grammar.specs.Bytes.{Bytes, Among, letters}
+use Rattle.grammar.specs.Letters.{FoldTable, LettersJudged}
 use Rattle.grammar.specs.Grammar.{Clause}
 use Rattle.tables.specs.Numbering.{place, standing, namesOf, programOf}
 use Rattle.tables.specs.Reading.{read, refused, bookOf, reading, Book, Refusal}
@@ -58,21 +59,23 @@ pub record ReadLeaves (old : Areas) (r : Outcome) : Type 0 where
   -- "number, line", "names, rules zero"
   pub cleared : OneOf (r .answer .number) lineCauses → r ≡ refusedWith (r .answer .number) (r .answer .line) (zeroed old)
 
--- demands 1 and 2 for the reader's call
-pub record ReadCalls (fold : ℕ → ℕ) : Type 0 where
-  -- it accepts exactly the books of the grammar within the limits, and leaves exactly their tables
-  pub accepts : (t : Bytes) (old o : Areas) (n m : ℕ) → (readCall fold t old ≡ accepted n m o)
-      ↔ ((cs : List Clause) × (short old ≡ false) × (length t ≤ textBytes) × Book fold t cs
+-- demands 1 and 2 for the reader's call, with any table lent
+pub record ReadCalls (table : List ℕ) : Type 0 where
+  -- under a table that passes it accepts exactly the books of the grammar within the limits, and leaves exactly their tables
+  pub accepts : (t : Bytes) (old o : Areas) (n m : ℕ) → (readCall table t old ≡ accepted n m o)
+      ↔ ((cs : List Clause) × (short old ≡ false) × FoldTable table × (length t ≤ textBytes) × Book (letters table) t cs
       × (n ≡ length (namesOf cs)) × (m ≡ length cs) × (o ≡ tablesOf cs old))
-  -- it refuses under the number and the line of the first cause
-  pub refuses : (t : Bytes) (old : Areas) (k line : ℕ) → (k ≡ 0 → ⊥)
-      → ((readCall fold t old .answer .number ≡ k) × (readCall fold t old .answer .line ≡ line))
-      ↔ (((short old ≡ true) × (k ≡ 1) × (line ≡ 0)) ⊎ ((short old ≡ false) × Refuses fold t k line))
+  -- it refuses first for its areas and the table
+  pub letters-judged : (t : Bytes) (old : Areas) → LettersJudged (short old ≡ false) table (readCall table t old .answer .number)
+  -- else under the number and the line of the first cause
+  pub refuses : (t : Bytes) (old : Areas) (k line : ℕ) → (k ≡ 0 → ⊥) → (OneOf k letterCauses → ⊥)
+      → ((readCall table t old .answer .number ≡ k) × (readCall table t old .answer .line ≡ line))
+      ↔ ((short old ≡ false) × FoldTable table × Refuses (letters table) t k line)
   -- and returns and leaves what document 01 says of that number
-  pub leaves : (t : Bytes) (old : Areas) → ReadLeaves old (readCall fold t old)
+  pub leaves : (t : Bytes) (old : Areas) → ReadLeaves old (readCall table t old)
   -- every call is one or the other
-  pub every-call : (t : Bytes) (old : Areas) → ((n : ℕ) × (m : ℕ) × (o : Areas) × (readCall fold t old ≡ accepted n m o))
-      ⊎ ((k : ℕ) × (line : ℕ) × (k ≡ 0 → ⊥) × (readCall fold t old ≡ refusal k line old))
+  pub every-call : (t : Bytes) (old : Areas) → ((n : ℕ) × (m : ℕ) × (o : Areas) × (readCall table t old ≡ accepted n m o))
+      ⊎ ((k : ℕ) × (line : ℕ) × (k ≡ 0 → ⊥) × (readCall table t old ≡ refusal k line old))
 
 -- numbering is by first appearance, one to one and onto the names that stand in the book
 pub record Numbers (cs : List Clause) : Type 0 where

@@ -2,10 +2,10 @@
 -- untouched". Proved in proofs/Sizes.antt.
 -- Assumes nothing.
 use mathlib.Core.Path.{_≡_}
-use mathlib.Core.List.{_++_}
+use mathlib.Core.List.{List, _++_}
 use Prim.Native.Nat.{ℕ}
 use lib.ListN.{take, drop}
-use Rattle.limits.specs.Book.{textBytes, rules, nameArea, bodyArea}
+use Rattle.limits.specs.Book.{textBytes, letterBytes, rules, nameArea, bodyArea}
 use Rattle.grammar.specs.Bytes.{Bytes}
 use Rattle.tables.specs.Areas.{Areas, RuleTables, Outcome, readCall}
 use Rattle.tables.specs.Writing.{Written, writeCall}
@@ -36,8 +36,10 @@ readWithRest o r = record { answer = r .answer; areas = tablesWithRest o (r .are
 abbrev pub writtenWithRest : Bytes → Written → Written
 writtenWithRest area r = record { number = r .number; size = r .size; text = r .text ++ drop textBytes area }
 
--- what lies past the stated sizes is neither judged nor touched: each call is the call on areas cut to them, with the rest put after
-pub record TableSizes (fold : ℕ → ℕ) : Type 0 where
-  pub reader : (t : Bytes) (old : Areas) → readCall fold t old ≡ readWithRest old (readCall fold t (statedTables old))
+-- what lies past the stated sizes is neither judged nor touched: each call is the call on areas cut to them, with the rest put after; and it
+-- goes by the first 256 bytes of the folding table alone
+pub record TableSizes (table : List ℕ) : Type 0 where
+  pub reader : (t : Bytes) (old : Areas)
+      → readCall table t old ≡ readWithRest old (readCall (take letterBytes table) t (statedTables old))
   pub writer : (o : Areas) (n m : ℕ) (area : Bytes)
-      → writeCall fold o n m area ≡ writtenWithRest area (writeCall fold (statedTables o) n m (take textBytes area))
+      → writeCall table o n m area ≡ writtenWithRest area (writeCall (take letterBytes table) (statedTables o) n m (take textBytes area))

@@ -10,7 +10,8 @@ use Rattle.limits.specs.Book.{textBytes, names, nameBytes, rules, bodyWords, na
 use Rattle.sets.specs.Set.{pick, every, members}
 use Rattle.areas.specs.Area.{part, filled}
 use Rattle.program.specs.Program.{Rule}
-use Rattle.grammar.specs.Bytes.{Bytes, colon, space, allOf}
+use Rattle.grammar.specs.Bytes.{Bytes, colon, space, letters, allOf}
+use Rattle.grammar.specs.Letters.{lettersCause}
 use Rattle.grammar.specs.Grammar.{Clause, mark, joined}
 use Rattle.tables.specs.Numbering.{sameBytes, namesOf}
 use Rattle.tables.specs.Reading.{Book}
@@ -93,16 +94,20 @@ pub record Written : Type 0 where
   pub size : ℕ
   pub text : Bytes
 
+-- a refusal of the writer: the number, no text, and the area as it was
+abbrev pub unwritten : ℕ → Bytes → Written
+unwritten number area = record { number = number; size = 0; text = area }
+
 -- a text placed in the area, or refused for its length
 unfoldable pub placed : Bytes → Bytes → Written
 placed w area =
-    pick (ltb textBytes (length w)) (record { number = 12; size = 0; text = area })
+    pick (ltb textBytes (length w)) (unwritten 12 area)
     (record { number = 0; size = length w; text = filled textBytes w area })
 
--- the writer: areas too short, ill formed tables, a text too long
-unfoldable pub writeCall : (ℕ → ℕ) → Areas → ℕ → ℕ → Bytes → Written
-writeCall fold o n m area =
-    pick (short o || ltb (length area) textBytes) (record { number = 1; size = 0; text = area })
-    (pick (wellFormed fold o n m)
-    (placed (written (namesIn (o .spellings) n) (rulesIn (rulesOf o) m)) area)
-    (record { number = 10; size = 0; text = area }))
+-- the writer, lent a folding table: areas too short and the table come first, then ill formed tables, a text too long
+unfoldable pub writeCall : List ℕ → Areas → ℕ → ℕ → Bytes → Written
+writeCall table o n m area =
+    let cause : ℕ = lettersCause (short o || ltb (length area) textBytes) table in
+    pick (eqb cause 0)
+    (pick (wellFormed (letters table) o n m) (placed (written (namesIn (o .spellings) n) (rulesIn (rulesOf o) m)) area) (unwritten 10 area))
+    (unwritten cause area)

@@ -28,3 +28,10 @@ pub fn take(i: usize, text: &mut [u8]) -> usize
     let n = os::arg(i, &mut path);
     open(&path[..n], text)
 }
+
+// Whether the name of the file that argument i names begins `ev`, as `every_byte_..`: a file in which something takes every value.
+pub fn swept(i: usize) -> bool {
+    let mut name = io::buffer();
+    let n = os::arg(i, &mut name);
+    n >= 2 && name[0] == b'e' && name[1] == b'v'
+}

@@ -47,3 +47,14 @@ pub fn front(area: &[u8], size: usize) {
         text(&area[0..size]);
     }
 }
+
+// The bytes of an area up to the first that is zero.
+pub fn up_to_zero(area: &[u8]) {
+    let mut i = 0;
+    while i < area.len() && area[i] != 0 {
+        i += 1;
+    }
+    if i <= area.len() {
+        text(&area[0..i]);
+    }
+}

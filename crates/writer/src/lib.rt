@@ -1,9 +1,7 @@
 // The public call that writes tables as text.
 use limits::Book;
 use limits::Refusal;
-use scan::table::folding;
 ghost use mathlib.Core.Path.{_≡_};
-ghost use Rattle.grammar.specs.Bytes.{ourLetters};
 ghost use Rattle.tables.specs.Writing.{writeCall};
 ghost use Rattle.writer.specs.Short.{shortWrite};
 
@@ -32,28 +30,30 @@ pub fn too_short(spellings: usize, heads: usize, bodies: usize, text: usize) -> 
     text < Book::TEXT_BYTES
 }
 
-// Writes the n names and m rules as text, zero after it; a refusal leaves the area as it was.
+// Writes the n names and m rules as text, zero after it, by the letters of the lent table; a refusal leaves the area as it was.
 pub fn write(
     spellings: &[u8],
     heads: &[u16],
     bodies: &[u64],
+    table: &[u8],
     n: usize,
     m: usize,
     text: &mut [u8],
 ) -> Written
     ensures { λ r. ⌜ record { number = r .number; size = r .size; text = now (text .exit) }
-        ≡ writeCall ourLetters
+        ≡ writeCall (now (table .entry))
         (record { spellings = now (spellings .entry); heads = now (heads .entry); bodies = now (bodies .entry) })
         n m (now (text .entry)) ⌝ }
 {
-    if too_short(spellings.len(), heads.len(), bodies.len(), text.len()) {
+    let short = too_short(spellings.len(), heads.len(), bodies.len(), text.len());
+    let cause = scan::table::cause(short, table);
+    if cause != 0 {
         return Written {
-            number: Refusal::SHORT_AREA,
+            number: cause,
             size: 0,
         };
     }
-    let table = folding();
-    if !tablecheck::well_formed(spellings, heads, bodies, &table, n, m) {
+    if !tablecheck::well_formed(spellings, heads, bodies, table, n, m) {
         return Written {
             number: Refusal::ILL_FORMED,
             size: 0,

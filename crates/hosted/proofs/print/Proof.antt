@@ -2,9 +2,9 @@
 use mathlib.Core.Path.{_≡_}
 use lib.ListN.{length}
 use Rattle.limits.specs.Book.{listingBytes}
-use Rattle.grammar.specs.Bytes.{ourLetters}
-use Rattle.grammar.proofs.Folding.{folding}
-use Rattle.hosting.proofs.Printing.{refusal-room, refusal-fits, refusal-area, print-refused}
+use Rattle.grammar.specs.Letters.{ourTable}
+use Rattle.grammar.proofs.Letters.{our-table}
+use Rattle.hosting.proofs.Printing.{refusal-room, refusal-fits, refusal-area, print-refused, print-ours}
 use Rattle.hosted.proofs.Ends.{print-end}
 use borrow.Author.Needs.{needs}
 use Rattle.hosted.proofs.print.Statement.{statement}
@@ -14,13 +14,13 @@ returns : tie.Need-returns
 returns c =
     let l = c .before .before in
     let exact : length (l .before .before .before .args .out .now) ≡ listingBytes = search needs in
-    print-end ourLetters folding _ _ exact (l .list .ensures .0) (c .if1 .taken) (l .list .ensures .1)
+    print-ours _ (print-end ourTable our-table _ _ exact (l .list .ensures .0) (c .if1 .taken) (l .list .ensures .1))
 
 put-refusal-requires : tie.Need-put-refusal-requires
 put-refusal-requires c κs =
     let l = c .before .before .before in
     let exact : length (l .before .before .before .args .out .now) ≡ listingBytes = search needs in
-    refusal-room ourLetters folding _ _ exact _ (l .list .ensures .0) (c .before .if1 .left)
+    refusal-room ourTable our-table _ _ exact _ (l .list .ensures .0) (c .before .if1 .left)
 
 clear-tail8-requires : tie.Need-clear-tail8-requires
 clear-tail8-requires c κs =
@@ -28,9 +28,9 @@ clear-tail8-requires c κs =
     let i = p .before .before in
     let l = i .before .before in
     let exact : length (l .before .before .before .args .out .now) ≡ listingBytes = search needs in (
-      refusal-fits ourLetters folding _ _ exact _ (l .list .ensures .0) (i .if1 .left)
+      refusal-fits ourTable our-table _ _ exact _ (l .list .ensures .0) (i .if1 .left)
           _ _ (p .put-refusal .ensures .1) (p .put-refusal .ensures .0),
-      refusal-area ourLetters folding _ _ exact _ (l .list .ensures .0) (i .if1 .left)
+      refusal-area ourTable our-table _ _ exact _ (l .list .ensures .0) (i .if1 .left)
           _ _ (p .put-refusal .ensures .1) (p .put-refusal .ensures .0),
     )
 
@@ -40,8 +40,9 @@ returns-2 c =
     let i = p .before .before in
     let l = i .before .before in
     let exact : length (l .before .before .before .args .out .now) ≡ listingBytes = search needs in
-    print-refused ourLetters folding _ _ exact _ (l .list .ensures .0) (i .if1 .left) _ _ (p .put-refusal .ensures .1) (p .put-refusal .ensures .0)
-    _ (c .clear-tail8 .ensures)
+    print-ours _
+    (print-refused ourTable our-table _ _ exact _ (l .list .ensures .0) (i .if1 .left) _ _ (p .put-refusal .ensures .1) (p .put-refusal .ensures .0)
+    _ (c .clear-tail8 .ensures))
 
 pub print-spec : {M : Type 1} → statement M
 print-spec =

@@ -22,7 +22,7 @@ returns c =
     let at-args = at-begins .before .before .before .before .before .before in
     let a = at-args .args in
     let fold = letters (a .table .now) in
-    refuses fold (a .text .now) (a .spellings .now) (a .heads .now) (a .bodies .now) 3 _ (c .refused .ensures) (bookOf fold (a .text .now))
+    refuses (a .spellings .now) (a .heads .now) (a .bodies .now) 3 _ (c .refused .ensures) (bookOf fold (a .text .now))
     (book-unmarked fold (a .text .now) (sym (at-begins .begins .ensures) ∙ not-true _ (at-if1 .if1 .taken)))
 
 sub-if2 : tie.Need-sub-if2
@@ -48,7 +48,7 @@ returns-2 c =
     let at-args = at-begins .before .before .before .before .before .before in
     let a = at-args .args in
     let fold = letters (a .table .now) in
-    refuses fold (a .text .now) (a .spellings .now) (a .heads .now) (a .bodies .now) 4 _ (c .refused2 .ensures) (bookOf fold (a .text .now))
+    refuses (a .spellings .now) (a .heads .now) (a .bodies .now) 4 _ (c .refused2 .ensures) (bookOf fold (a .text .now))
     (book-unended fold (a .text .now) (sym (at-begins .begins .ensures) ∙ not-false _ (at-if1 .if1 .left)) (ne-eqb _ _ (at-if2 .if2 .taken)))
 
 lines-requires : tie.Need-lines-requires

@@ -1,15 +1,14 @@
--- `scan::table::folding` meets its contract: its letters are document 01's, which obey the rule. Assumes nothing.
-use mathlib.Core.Path.{sym, subst}
-use native.Mathlib.Omega.{arith}
-use Rattle.grammar.specs.Bytes.{Folding}
-use Rattle.grammar.proofs.Folding.{folding}
-use Rattle.scan.proofs.Entries.{entries, ours}
+-- `scan::table::folding` meets its contract: each entry is computed. Assumes nothing.
+use mathlib.Core.Path.{refl}
+use Rattle.sets.specs.Set.{pick}
+use Rattle.grammar.specs.Bytes.{small, ourLetters}
+use Rattle.grammar.specs.Letters.{entriesFrom, ourTable}
 use Rattle.scan.proofs.table.folding.Statement.{statement}
 use Rattle.scan.proofs.table.folding.Tie as tie
 
 returns : tie.Need-returns
-unfolding entries
-returns c = ((omega arith, subst Folding (sym ours) folding), ours)
+unfolding ourTable entriesFrom ourLetters small pick
+returns c = refl
 
 pub folding-spec : {M : Type 1} → statement M
 folding-spec = tie.close (tie.spec returns)
