@@ -25,7 +25,7 @@ extern "C" {
  * The release of this engine, as CHANGELOG.md counts them. The 0001 in a book's
  * mark and in a listing's head line is another thing: the version of the form.
  */
-#define DPB_RELEASE "1.1.0"
+#define DPB_RELEASE "2.0.0"
 
 /* Limits. At most this many: */
 #define DPB_TEXT_BYTES 16384 /* bytes in a book, its mark line included */
@@ -51,8 +51,10 @@ extern "C" {
  * and in one line 5, then 7, then 6; at last 8. So 1, 2 and 9 are returned
  * without a look at the text.
  *
- * A line comes with 5, 6 and 7 only; the mark is line 1. The numbers 10, 11 and
- * 12 belong to calls that C does not have: this call never returns them.
+ * A line comes with 5, 6 and 7 only; the mark is line 1. The numbers 10, 11, 12,
+ * 20 and 21 belong to calls that C does not have: this call never returns them.
+ * 20 and 21 are of a folding table, which a site can lend in Rattle; this call
+ * is lent none and always goes by the letters A to Z and a to z.
  */
 #define DPB_LISTED 0              /* none: the listing is written */
 #define DPB_REFUSED_SHORT_AREA 1  /* the lent area is too short: listing_len is under 4,608 */
