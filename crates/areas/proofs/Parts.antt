@@ -1,10 +1,11 @@
 -- A part of an area, and elements put into it: what is there then, and what is as it was.
 -- Assumes nothing.
 use mathlib.Core.Path.{_≡_, sym, ap, ap₂, _∙_}
-use mathlib.Core.List.{List, _++_, append-assoc, append-nil}
-use Prim.Native.Nat.{ℕ, _+_, _-_, _≤_}
+use mathlib.Core.List.{List, [], _∷_, _++_, append-assoc, append-nil}
+use Prim.Native.Nat.{ℕ, zero, suc, _+_, _-_, _≤_, _<_}
 use native.Mathlib.Omega.{arith}
-use lib.ListN.{length, take, drop, length-append, length-take, length-drop, take-append-drop, drop-of-length-le}
+use native.Mathlib.Nat.{add-zero}
+use lib.ListN.{length, take, drop, set, length-append, length-take, length-drop, take-append-drop, drop-of-length-le}
 use lib.Seq.{length-take-le, take-all, take-at, take-append-seam, take-append-le, drop-append-le, drop-at, drop-drop}
 use Rattle.areas.specs.Area.{part, put}
 
@@ -30,6 +31,24 @@ part-whole w area e = take-all w area (omega arith)
 -- words put over all of an area
 pub put-whole : (ys area : List ℕ) → length area ≡ length ys → put 0 ys area ≡ ys
 put-whole ys area e = ap (λ (zs : List ℕ). ys ++ zs) (drop-of-length-le area {i = 0 + length ys} (omega arith)) ∙ append-nil ys
+
+-- nothing put into an area leaves it as it was
+pub put-none : (at : ℕ) (area : List ℕ) → area ≡ put at [] area
+put-none at area = sym (ap (λ (n : ℕ). take at area ++ drop n area) (add-zero at) ∙ take-append-drop at area)
+
+-- the first of the elements put by itself, and then the others
+pub put-set : (at v : ℕ) (ys area : List ℕ) → at < length area → put (suc at) ys (set area at v) ≡ put at (v ∷ ys) area
+put-set at v ys [] l = absurd (omega arith)
+put-set zero v ys (x ∷ xs) l =
+    let e : 1 + length ys ≡ suc (length ys) = omega arith in
+    let q : suc (length ys) ≡ 0 + suc (length ys) = omega arith in
+    ap (λ (k : ℕ). v ∷ (ys ++ drop k (v ∷ xs))) e ∙ ap (λ (k : ℕ). v ∷ (ys ++ drop k (x ∷ xs))) q
+put-set (suc at) v ys (x ∷ xs) l =
+    let e : suc (suc at) + length ys ≡ suc (suc at + length ys) = omega arith in
+    let q : suc (at + suc (length ys)) ≡ suc at + suc (length ys) = omega arith in
+    ap (λ (k : ℕ). x ∷ (take (suc at) (set xs at v) ++ (ys ++ drop k (x ∷ set xs at v)))) e
+    ∙ ap (λ (zs : List ℕ). x ∷ zs) (put-set at v ys xs (omega arith))
+    ∙ ap (λ (k : ℕ). x ∷ (take at xs ++ (v ∷ (ys ++ drop k (x ∷ xs))))) q
 
 -- a part of the front of an area
 pub part-front : (p w : ℕ) (xs ys : List ℕ) → p + w ≤ length xs → part p w (xs ++ ys) ≡ part p w xs

@@ -10,7 +10,7 @@ use native.Mathlib.Omega.{arith}
 use lib.Bits.{bitOr, or-lt}
 use lib.Pow.{pow-lt, shl-exact}
 use lib.Dec.{eqb}
-use lib.ListN.{length, getD, take, drop, set, length-append, length-take, length-drop, length-set, take-append-drop}
+use lib.ListN.{length, getD, take, drop, set, length-append, length-take, length-drop, length-set}
 use lib.Seq.{take-suc, drop-cons, set-at, getD-drop, getD-append-add, getD-set-same, getD-set-other, drop-drop}
 use borrow.Author.Tests.{eqb-true, eqb-false, eq-eqb, ne-eqb}
 use borrow.Rule.Slice.PartMut.{set-mid-at}
@@ -21,17 +21,13 @@ use Rattle.words.specs.Row.{bit, row, pack, binary, Words}
 use Rattle.sets.proofs.Logic.{either}
 use Rattle.words.proofs.Bits.{bit-or, bit-power, bit-binary, bits-equal, binary-lt}
 use Rattle.words.proofs.Rows.{row-word, length-pack, pack-row, pack-same}
-use Rattle.areas.proofs.Parts.{length-part}
+use Rattle.areas.proofs.Parts.{length-part, put-none}
 use Rattle.words.proofs.Areas.{words-part}
 use Rattle.rows.proofs.Reading.{word-of, Known, in-range}
 
 -- a word with the bits of f
 word-is : (v : ℕ) (f : Set) → v < 2 ^ wordBits → Same wordBits f (bit v) → binary wordBits f ≡ v
 word-is v f h s = bits-equal wordBits (binary wordBits f) v (binary-lt wordBits f) h (λ i l. bit-binary wordBits f i l ∙ s i l)
-
--- nothing put into an area leaves it as it was
-put-none : (at : ℕ) (area : List ℕ) → area ≡ put at [] area
-put-none at area = sym (ap (λ (n : ℕ). take at area ++ drop n area) (add-zero at) ∙ take-append-drop at area)
 
 -- ys, j words, put at `at`, with room for one more
 module _ (at j : ℕ) (ys area : List ℕ) (e : length ys ≡ j) (h : at + j < length area) where
