@@ -292,7 +292,11 @@ our-letters =
     (λ l. pick-true (getD ourTable b 0) 0 l ∙ let e : 0 + b ≡ b = omega arith in entry-from ourLetters letterBytes 0 b (ltb-true b letterBytes l) ∙ ap ourLetters e)
     (λ l. pick-false (getD ourTable b 0) 0 l ∙ sym (past-bytes b (ltb-false b letterBytes l))))
 
+-- it has one for each byte value
+pub length-ours : length ourTable ≡ letterBytes
+unfolding ourTable
+length-ours = length-from ourLetters letterBytes 0
+
 -- it passes
 pub our-table : FoldTable ourTable
-unfolding ourTable
-our-table = (omega (arith, length-from ourLetters letterBytes 0), subst Folding (sym our-letters) folding)
+our-table = (omega (arith, length-ours), subst Folding (sym our-letters) folding)

@@ -2,6 +2,7 @@ pub mod Spans
 pub mod Words
 pub mod Folding
 pub mod Letters
+pub mod Fill
 pub mod Cutting
 pub mod Bodies
 pub mod Forms

@@ -1,7 +1,8 @@
--- Sample lines with their forms, and sample folding tables with the numbers under which they are refused, computed.
+-- Sample lines with their forms, our letters spelt out and filled into areas, and sample folding tables with the numbers under which they
+-- are refused, computed.
 -- Assumes nothing.
 use mathlib.Core.Path.{_≡_, refl}
-use mathlib.Core.List.{List, [], _∷_, map}
+use mathlib.Core.List.{List, [], _∷_, _++_, map}
 use mathlib.Core.Bool.{not, _&&_}
 use Prim.Native.Nat.{ℕ, _+_}
 use Prim.Native.String.{String}
@@ -9,8 +10,10 @@ use lib.Dec.{eqb}
 use lib.ListN.{set, replicate}
 use Rattle.limits.specs.Book.{letterBytes}
 use Rattle.sets.specs.Set.{pick, exists}
+use Rattle.areas.specs.Area.{begun}
 use Rattle.grammar.specs.Bytes.{bytes, blank, from-to, small, ourLetters, letters, reserved, nameByte, allOf}
 use Rattle.grammar.specs.Letters.{anyReserved, anyUnsettled, tableCause, entriesFrom, ourTable}
+use Rattle.grammar.specs.Fill.{FillOutcome, fillCall}
 use Rattle.grammar.specs.Grammar.{Form, silent, rule, fault}
 use Rattle.grammar.specs.Lines.{span, grown, goesOn, wordsOf, isName, allNames, fromColon, fromHead, starts, formOf}
 
@@ -42,6 +45,36 @@ table =
 pub line-forms : map (λ (r : String × Form). formOf ourLetters (bytes (r .0))) table ≡ map (λ (r : String × Form). r .1) table
 unfolding pick blank small ourLetters nameByte allOf span grown goesOn wordsOf isName allNames fromColon fromHead starts formOf
 line-forms = refl
+
+-- document 01's name bytes spelt out, and what each is folded to
+abbrev spelt : List ℕ
+spelt = bytes "ABCDEFGHIJKLMNOPQRSTUVWXYZabcdefghijklmnopqrstuvwxyz0123456789._-"
+
+abbrev folded : List ℕ
+folded = bytes "abcdefghijklmnopqrstuvwxyzabcdefghijklmnopqrstuvwxyz0123456789._-"
+
+-- the entry of b by a list of bytes and one of their entries, 0 for a byte that is none of them
+unfoldable pub entryOf : ℕ → List ℕ → List ℕ → ℕ
+entryOf b [] ys = 0
+entryOf b (x ∷ xs) [] = 0
+entryOf b (x ∷ xs) (y ∷ ys) = pick (eqb b x) y (entryOf b xs ys)
+
+-- our table has these entries and no others, at each of the 256 byte values
+pub entries-spelt : entriesFrom (λ b. entryOf b spelt folded) letterBytes 0 ≡ ourTable
+unfolding pick small ourLetters entriesFrom ourTable entryOf
+entries-spelt = refl
+
+-- areas of 255, 256 and 258 sevens, each with what the call that fills them returns and leaves
+abbrev sevens : ℕ → List ℕ
+sevens n = replicate n 7
+
+pub areas-filled : map fillCall (sevens 255 ∷ sevens 256 ∷ sevens 258 ∷ [])
+    ≡ record { number = 1; area = sevens 255 }
+    ∷ record { number = 0; area = ourTable }
+    ∷ record { number = 0; area = ourTable ++ sevens 2 }
+    ∷ []
+unfolding pick small ourLetters entriesFrom ourTable begun fillCall
+areas-filled = refl
 
 -- document 01's table with another entry at one byte: that byte, its entry, and the number. Each reserved byte; one whose entry is not its
 -- own besides; entries that are not their own; tables that pass

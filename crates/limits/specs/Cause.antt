@@ -78,3 +78,7 @@ roundsCauses = 1 ∷ 10 ∷ 11 ∷ []
 -- the plain route's: an area too short, tables ill formed
 abbrev pub plainCauses : List ℕ
 plainCauses = 1 ∷ 10 ∷ []
+
+-- those of the call that fills an area with our letters: an area too short
+abbrev pub fillCauses : List ℕ
+fillCauses = 1 ∷ []
