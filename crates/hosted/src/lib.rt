@@ -17,7 +17,8 @@ pub struct Verdict {
     pub end: usize,
 }
 
-// Solves the book by our letters, in areas on its own stack; only the listing area is lent. Our table passes, so it is not judged.
+// Solves the book by our letters, in areas on its own stack; only the listing area is lent. Our table passes, so it is not judged; 256 bytes are
+// never too short for it, so the number that `fill` returns is not looked at.
 pub fn list(text: &[u8], folds: usize, listing: &mut [u8]) -> Verdict
     ensures listed { λ r. ⌜ record { number = r .number; line = r .line; listing = now (listing .exit) }
         ≡ listCall ourTable (now (text .entry)) folds (now (listing .entry)) ⌝ }
@@ -30,7 +31,8 @@ pub fn list(text: &[u8], folds: usize, listing: &mut [u8]) -> Verdict
     let mut any = [0u64; Book::ROW_AREA];
     let mut spare = [0u64; Book::ROW_AREA];
     let mut model = [0u64; Book::ROW_WORDS];
-    let table = scan::table::folding();
+    let mut table = [0u8; Book::LETTER_BYTES];
+    scan::table::fill(&mut table);
     let r = solver::solve_in(
         text,
         &table,

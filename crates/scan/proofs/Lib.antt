@@ -1,3 +1,4 @@
+pub mod Ours
 pub mod Tables
 pub mod Scans
 pub mod Steps

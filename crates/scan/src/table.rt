@@ -1,281 +1,71 @@
-// The folding table of document 01: one entry for each byte value, 0 for a byte that no name has, else the small letter; and what is judged
-// of a lent one.
+// Folding tables: one entry for each byte value, 0 for a byte that no name has, else the byte that it counts as. Document 01's entries, worked
+// out from ranges; the letters of a lent table, and what is judged of it.
 use limits::Book;
 use limits::Refusal;
+use rows::clear::clear_tail8;
 ghost use mathlib.Core.Path.{_≡_};
-ghost use Prim.Native.Nat.{_≤_};
+ghost use Prim.Native.Nat.{suc, _+_, _-_, _≤_, _<_};
 ghost use lib.ListN.{length};
 ghost use Rattle.limits.specs.Book.{letterBytes};
-ghost use Rattle.grammar.specs.Bytes.{letters};
-ghost use Rattle.grammar.specs.Letters.{FoldTable, anyReserved, anyUnsettled, lettersCause, ourTable};
+ghost use Rattle.areas.specs.Area.{put};
+ghost use Rattle.grammar.specs.Bytes.{letters, ourLetters};
+ghost use Rattle.grammar.specs.Letters.{FoldTable, anyReserved, anyUnsettled, lettersCause, entriesFrom, ourTable};
+ghost use Rattle.grammar.specs.Fill.{fillCall};
 
 // Bytes that no folding lets into a name: they have entry 0 in every table that passes.
 const RESERVED: [u8; 9] = [0, b'\t', b'\n', b'\r', b' ', b'!', b'#', b':', b'@'];
 
-const FOLD: [u8; 256] = [
-    0,
-    0,
-    0,
-    0,
-    0,
-    0,
-    0,
-    0,
-    0,
-    0,
-    0,
-    0,
-    0,
-    0,
-    0,
-    0,
-    0,
-    0,
-    0,
-    0,
-    0,
-    0,
-    0,
-    0,
-    0,
-    0,
-    0,
-    0,
-    0,
-    0,
-    0,
-    0,
-    0,
-    0,
-    0,
-    0,
-    0,
-    0,
-    0,
-    0,
-    0,
-    0,
-    0,
-    0,
-    0,
-    45, // -
-    46, // .
-    0,
-    48, // 0 to 9
-    49,
-    50,
-    51,
-    52,
-    53,
-    54,
-    55,
-    56,
-    57,
-    0,
-    0,
-    0,
-    0,
-    0,
-    0,
-    0,
-    97, // A to Z
-    98,
-    99,
-    100,
-    101,
-    102,
-    103,
-    104,
-    105,
-    106,
-    107,
-    108,
-    109,
-    110,
-    111,
-    112,
-    113,
-    114,
-    115,
-    116,
-    117,
-    118,
-    119,
-    120,
-    121,
-    122,
-    0,
-    0,
-    0,
-    0,
-    95, // _
-    0,
-    97, // a to z
-    98,
-    99,
-    100,
-    101,
-    102,
-    103,
-    104,
-    105,
-    106,
-    107,
-    108,
-    109,
-    110,
-    111,
-    112,
-    113,
-    114,
-    115,
-    116,
-    117,
-    118,
-    119,
-    120,
-    121,
-    122,
-    0,
-    0,
-    0,
-    0,
-    0,
-    0,
-    0,
-    0,
-    0,
-    0,
-    0,
-    0,
-    0,
-    0,
-    0,
-    0,
-    0,
-    0,
-    0,
-    0,
-    0,
-    0,
-    0,
-    0,
-    0,
-    0,
-    0,
-    0,
-    0,
-    0,
-    0,
-    0,
-    0,
-    0,
-    0,
-    0,
-    0,
-    0,
-    0,
-    0,
-    0,
-    0,
-    0,
-    0,
-    0,
-    0,
-    0,
-    0,
-    0,
-    0,
-    0,
-    0,
-    0,
-    0,
-    0,
-    0,
-    0,
-    0,
-    0,
-    0,
-    0,
-    0,
-    0,
-    0,
-    0,
-    0,
-    0,
-    0,
-    0,
-    0,
-    0,
-    0,
-    0,
-    0,
-    0,
-    0,
-    0,
-    0,
-    0,
-    0,
-    0,
-    0,
-    0,
-    0,
-    0,
-    0,
-    0,
-    0,
-    0,
-    0,
-    0,
-    0,
-    0,
-    0,
-    0,
-    0,
-    0,
-    0,
-    0,
-    0,
-    0,
-    0,
-    0,
-    0,
-    0,
-    0,
-    0,
-    0,
-    0,
-    0,
-    0,
-    0,
-    0,
-    0,
-    0,
-    0,
-    0,
-    0,
-    0,
-    0,
-    0,
-    0,
-    0,
-    0,
-    0,
-    0,
-    0,
-    0,
-    0,
-    0,
-    0,
-    0,
-    0,
-];
+// What lies between a capital letter and its small one.
+const TO_SMALL: u8 = b'a' - b'A';
 
-// The table, for a call to lend on: so it is laid down once a call and not once a byte.
-pub fn folding() -> [u8; 256]
+// Document 01's entry for byte b: the small letter, 0 for a byte that no name has.
+pub fn letter(b: u8) -> u8
+    ensures { λ r. ⌜ r ≡ ourLetters b ⌝ }
+{
+    match b {
+        b'A'..=b'Z' => b + TO_SMALL,
+        b'a'..=b'z' | b'0'..=b'9' | b'.' | b'_' | b'-' => b,
+        _ => 0,
+    }
+}
+
+// Each byte from first to last gets an entry: itself, with `more` added. `last` is under 255, so that b can go past it.
+fn fill_range(area: &mut [u8], first: u8, last: u8, more: u8)
+    requires { ⌜ (first ≤ last) × (last < 255) × (last + more < 256) × (letterBytes ≤ length (now area)) ⌝ }
+    ensures { λ r. ⌜ now (area .exit)
+        ≡ put first (entriesFrom (λ b. b + more) (suc last - first) first) (now (area .entry)) ⌝ }
+{
+    let mut b = first;
+    while b <= last {
+        area[b as usize] = b + more;
+        b += 1;
+    }
+}
+
+// Fills a lent area with document 01's table, which the host then lends on. It goes range by range into zeros: a call of `letter` for each
+// byte takes many times as long.
+pub fn fill(area: &mut [u8]) -> usize
+    ensures { λ r. ⌜ record { number = r; area = now (area .exit) } ≡ fillCall (now (area .entry)) ⌝ }
+{
+    if area.len() < Book::LETTER_BYTES {
+        return Refusal::SHORT_AREA;
+    }
+    clear_tail8(area, 0, Book::LETTER_BYTES);
+    fill_range(area, b'A', b'Z', TO_SMALL);
+    fill_range(area, b'a', b'z', 0);
+    fill_range(area, b'0', b'9', 0);
+    fill_range(area, b'-', b'.', 0);
+    fill_range(area, b'_', b'_', 0);
+    0
+}
+
+// Document 01's table as a value, for a host that lends a local.
+pub fn folding() -> [u8; Book::LETTER_BYTES]
     ensures { λ r. ⌜ r ≡ ourTable ⌝ }
 {
-    FOLD
+    let mut table = [0u8; Book::LETTER_BYTES];
+    fill(&mut table);
+    table
 }
 
 // The letter of byte b in a lent table.
