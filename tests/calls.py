@@ -1,10 +1,11 @@
 # The calls on text by the second engine of engine.py, on lent areas: what the reader, the solver and the writer answer under a folding table, and what
-# they leave. The names held must be those that the work list finds over the spelt rules, and of few names those that every model has.
+# they leave. The names held must be those that the work list finds over the spelt rules, and of few names those that every model has. Last,
+# the call that fills an area with our own table.
 import functools
 
 import engine
 from engine import JUNK8, JUNK16, JUNK64, LETTERS, Refused
-from figures import BODY_AREA, FOLDS, LISTING_BYTES, NAME_AREA, ROW_AREA, ROW_WORDS, RULES, TEXT_BYTES, Refusal, head_line
+from figures import BODY_AREA, FOLDS, LETTER_BYTES, LISTING_BYTES, NAME_AREA, ROW_AREA, ROW_WORDS, RULES, TEXT_BYTES, Refusal, head_line
 
 # the areas in the order in which they are lent: stated size, and what an entry holds before the first call
 AREAS = {
@@ -145,3 +146,10 @@ class Areas:
             return cause.number, 0
         self.put("text", text)
         return 0, len(text)
+
+
+def fill(area):
+    """number, and the area: our table in its first bytes and the rest as it was, or all of it as it was where the table has no room"""
+    if len(area) < LETTER_BYTES:
+        return Refusal.SHORT_AREA, area
+    return 0, LETTERS + area[LETTER_BYTES:]

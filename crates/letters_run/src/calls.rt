@@ -1,6 +1,7 @@
 // The calls under a lent table, each in areas of its own, and what is printed of it: the answer, a checksum of each area that is lent, and listings
 // and texts that are short. What is changed in a case: nothing (0), an area lent one entry short (1 to 8 as the solver takes them, 9 the writer's
-// text), each body made that of all names before it is written (10); or nothing, but neither listing nor text is printed (11).
+// text), each body made that of all names before it is written (10); or nothing, but neither listing nor text is printed (11). A case with 12
+// has no book: it is one of `ours`.
 use limits::Book;
 use trial::areas::Area;
 use trial::print;
@@ -11,6 +12,8 @@ const TEXT: usize = 9;
 const FULL: usize = 10;
 
 pub const BRIEF: usize = 11;
+
+pub const FILL: usize = 12;
 
 // Texts up to this long are printed whole.
 const SHORT: usize = 300;

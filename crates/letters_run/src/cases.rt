@@ -1,6 +1,8 @@
 // The cases of a file, one after another. A case is a part with its title; the number of the table under which it is read and solved, of the one
-// under which it is written, of folds, and of what is changed; and a part with its text.
+// under which it is written, of folds, and of what is changed; and a part with its text, or with what an area holds that is to be filled.
 use crate::calls;
+use crate::calls::FILL;
+use crate::ours;
 use crate::parts;
 use crate::parts::wide;
 use crate::sweep;
@@ -12,6 +14,10 @@ ghost use lib.ListN.{length};
 const NUMBERS: usize = 4;
 
 fn show(text: &[u8], table: &[u8], other: &[u8], folds: usize, change: usize) {
+    if change == FILL {
+        ours::show(text);
+        return;
+    }
     calls::read(text, table, change);
     calls::solve(text, table, folds, change);
     calls::rewrite(text, table, other, change);

@@ -5,7 +5,8 @@ use crate::calls::BRIEF;
 use limits::Book;
 use trial::print;
 
-fn copy(table: &[u8], changed: &mut [u8]) {
+// As many bytes as there are, and as there is room for.
+pub fn copy(table: &[u8], changed: &mut [u8]) {
     let mut i = 0;
     while i < table.len() && i < changed.len() {
         changed[i] = table[i];
