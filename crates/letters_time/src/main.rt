@@ -1,7 +1,10 @@
-// Calls the reader many times for each argument, so that what it costs to judge a lent table is timed from outside (bench/letters). The first
-// byte of an argument is the case: `s`, a table that is too short, judged no further; `l`, a table refused for its last entry, which is judged whole
-// and with which nothing is read; `w`, a table that passes, with which the book below is read whole.
+// Makes a call many times for each argument, so that it is timed from outside (bench/letters). The first byte of an argument is the case. The
+// reader is called with `s`, a table that is too short, judged no further; `l`, a table refused for its last entry, which is judged whole and with
+// which nothing is read; `w`, a table that passes, with which the book below is read whole. With `f` an area is filled with our letters, with `e`
+// entry by entry.
 use limits::Book;
+use scan::table::fill;
+use scan::table::letter;
 use trial::print;
 
 // An odd number, so that a number returned each time is what is left of them.
@@ -52,11 +55,65 @@ fn repeat(case: u8) -> u64 {
     joined
 }
 
+fn set_entry(area: &mut [u8], b: u8) {
+    if (b as usize) < area.len() {
+        area[b as usize] = letter(b);
+    }
+}
+
+fn fill_each(area: &mut [u8]) {
+    let mut b = 0;
+    while b < 255 {
+        set_entry(area, b);
+        b += 1;
+    }
+    set_entry(area, 255);
+}
+
+fn fill_by(case: u8, area: &mut [u8]) {
+    if case == b'f' {
+        fill(area);
+        return;
+    }
+    fill_each(area);
+}
+
+// The entry of one of the capital letters, another one than in the call before; it is then spoilt, so that no call can be left out.
+fn taken(table: &mut [u8], i: usize) -> u8 {
+    let at = b'A' as usize + i % 26;
+    if at < table.len() {
+        let entry = table[at];
+        table[at] = 0;
+        return entry;
+    }
+    0
+}
+
+// The entries taken, joined by exclusive or.
+fn refill(case: u8) -> u64 {
+    let mut table = [0u8; Book::LETTER_BYTES];
+    let mut joined = 0;
+    let mut i = 0;
+    while i < CALLS {
+        fill_by(case, &mut table);
+        joined ^= taken(&mut table, i) as u64;
+        i += 1;
+    }
+    joined
+}
+
+fn result(case: u8) -> u64 {
+    if case == b'f' || case == b'e' {
+        return refill(case);
+    }
+    repeat(case)
+}
+
 fn argument(i: usize) {
     let mut name = io::buffer();
     let n = os::arg(i, &mut name);
     if n != 0 {
-        print::first(repeat(name[0]));
+        print::first(result(name[0]));
         print::end();
     }
 }
