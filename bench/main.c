@@ -76,25 +76,12 @@ static void compare_spoilt(void) {
     printf("compared: %zu spoilt books, %zu of them accepted; the same numbers and listings\n", compared, accepted);
 }
 
-struct worst {
-    const char *shape;
-    uint64_t folds;
-    double ratio;
-};
-
-static void run_shape(const struct shape *shape, uint64_t folds, struct worst *worst) {
-    static struct text text;
-    shape->make(&text);
-    demand(agree(text.bytes, text.length, folds, DPB_LISTING_BYTES), shape->name, folds);
+// What is timed is agreed on, and refused only where a shape is for reading alone.
+static void demand_shape(const struct shape *shape, const struct text *text, uint64_t folds) {
     uint8_t listing[DPB_LISTING_BYTES];
-    uint64_t number = baseline_list(text.bytes, text.length, folds, listing, sizeof listing);
+    demand(agree(text->bytes, text->length, folds, DPB_LISTING_BYTES), shape->name, folds);
+    uint64_t number = baseline_list(text->bytes, text->length, folds, listing, sizeof listing);
     demand((number != 0) == shape->reading, shape->name, folds);
-    double t[3];
-    measure(calls, 3, &text, folds, t);
-    printf("| %-22s | %5zu | %d | %8.2f | %8.2f | %5.2f | %8.2f | %6.2f |\n", shape->name, text.length, (int)folds, t[0], t[1], t[0] / t[1], t[2],
-           t[0] / t[2]);
-    fflush(stdout);
-    if (t[0] / t[1] > worst->ratio) *worst = (struct worst){shape->name, folds, t[0] / t[1]};
 }
 
 // Calls one program on one shape over and over, for a profiler.
@@ -106,25 +93,19 @@ static int repeat(const char *who, size_t s, uint64_t folds, size_t times) {
         sample(calls[c], &text, folds, times);
         return 0;
     }
-    fprintf(stderr, "usage: bench [dpb_list|baseline|counting SHAPE FOLDS TIMES]\n");
+    fprintf(stderr, "usage: bench compare | times | dpb_list|baseline|counting SHAPE FOLDS TIMES\n");
     return 2;
 }
 
 int main(int argc, char **argv) {
-    if (argc == 5) return repeat(argv[1], strtoul(argv[2], NULL, 10), strtoul(argv[3], NULL, 10), strtoul(argv[4], NULL, 10));
-    compare_spoilt();
-    printf("medians of %d samples, in microseconds a call\n\n", SAMPLES);
-    printf("| Shape                  | Bytes | Folds | dpb_list | baseline | ratio | counting | ratio |\n|---|---|---|---|---|---|---|---|\n");
-    struct worst whole = {"", 0, 0}, reading = {"", 0, 0};
-    for (size_t s = 0; s < shape_count; s++) {
-        if (shapes[s].reading) {
-            run_shape(&shapes[s], DPB_FOLDS, &reading);
-        } else {
-            run_shape(&shapes[s], 0, &whole);
-            run_shape(&shapes[s], DPB_FOLDS, &whole);
-        }
+    if (argc == 2 && strcmp(argv[1], "compare") == 0) {
+        compare_spoilt();
+        return 0;
     }
-    printf("\nlargest ratio against the baseline, from text to listing: %.2f (%s, %d folds; goal 1.5)\n", whole.ratio, whole.shape, (int)whole.folds);
-    printf("largest ratio against the baseline, reading alone: %.2f (%s; goal 3)\n", reading.ratio, reading.shape);
-    return 0;
+    if (argc == 2 && strcmp(argv[1], "times") == 0) {
+        time_shapes(calls, 3, demand_shape);
+        return 0;
+    }
+    if (argc == 5) return repeat(argv[1], strtoul(argv[2], NULL, 10), strtoul(argv[3], NULL, 10), strtoul(argv[4], NULL, 10));
+    return repeat("", 0, 0, 0);
 }

@@ -1,36 +1,56 @@
-"""The table of bench/turns: for each shape and fold number the medians over all runs, and the change from run to run.
+"""The tables of bench/run and bench/turns: medians.py run|turns.
 
-A line may be slow at one place of the code, and not at the same one in both archives: then the runs' changes lie in heaps far apart, and their median
-between two of them. So the last column goes by places: the geometric mean, over the places, of the median change of the runs there."""
+A line of the input is the run, the shape, its bytes, the folds and the microseconds of three calls, at one of the places of the code. What a run says
+of a call is the geometric mean over the places; ratios and changes are of what one run says, and the table has their medians over the runs."""
 import statistics
 import sys
 
-runs = {}
+lines = {}  # shape, bytes and folds; then the run; then the times of each call, place by place
 for line in sys.stdin:
-    place, shape, folds, before, after = line.rstrip("\n").split("\t")
-    runs.setdefault((shape, int(folds)), []).append((place, float(before), float(after)))
-if not runs:
-    sys.exit("bench/turns: no run came to its end")
+    run, shape, size, folds, *times = line.rstrip("\n").split("\t")
+    lines.setdefault((shape, size, folds), {}).setdefault(run, []).append([float(t) for t in times])
+if not lines:
+    sys.exit("medians.py: no run came to its end")
 
 
-def over_places(times):
-    ratios = {}
-    for place, before, after in times:
-        ratios.setdefault(place, []).append(after / before)
-    return statistics.geometric_mean(statistics.median(there) for there in ratios.values())
+def said(places):
+    return [statistics.geometric_mean(times) for times in zip(*places)]
 
 
-def percent(ratio):
-    return (ratio - 1) * 100
+def middle(runs, figure):
+    return statistics.median(figure(*times) for times in runs)
 
 
-count = min(len(times) for times in runs.values())
-print("medians of %d runs, in microseconds a call; the change is the median of the runs' own, then the least and the most of them;" % count)
-print("by places: the mean over the places of the median change there\n")
-print("| Shape                  | Folds |   before |    after |   change | least | most | by places |")
-print("|---|---|---|---|---|---|---|---|")
-for (shape, folds), times in runs.items():
-    changes = [percent(after / before) for _, before, after in times]
-    print("| %-22s | %d | %8.2f | %8.2f | %+6.1f %% | %+5.1f | %+5.1f | %+6.1f %% |" % (
-        shape, folds, statistics.median(before for _, before, _ in times), statistics.median(after for _, _, after in times),
-        statistics.median(changes), min(changes), max(changes), percent(over_places(times))))
+def ends(runs, figure):
+    figures = [figure(*times) for times in runs]
+    return min(figures), max(figures)
+
+
+def table_of_run():
+    print("| Shape                  | Bytes | Folds | dpb_list | baseline | ratio | range | counting | ratio |\n|---|---|---|---|---|---|---|---|---|")
+    worst = {}
+    for (shape, size, folds), runs in lines.items():
+        runs = [said(places) for places in runs.values()]
+        ratio = middle(runs, lambda d, b, c: d / b)
+        print("| %-22s | %5s | %s | %8.2f | %8.2f | %5.2f | %.2f to %.2f | %8.2f | %5.2f |" % (
+            shape, size, folds, middle(runs, lambda d, b, c: d), middle(runs, lambda d, b, c: b), ratio, *ends(runs, lambda d, b, c: d / b),
+            middle(runs, lambda d, b, c: c), middle(runs, lambda d, b, c: d / c)))
+        kind = "reading alone" if shape.startswith("reading") else "from text to listing"
+        worst[kind] = max(worst.get(kind, (0, "")), (ratio, "%s, %s folds" % (shape, folds)))
+    print()
+    for kind, goal in (("from text to listing", "1.5"), ("reading alone", "3")):
+        print("largest ratio against the baseline, %s: %.2f (%s; goal %s)" % (kind, *worst[kind], goal))
+
+
+def table_of_turns():
+    print("| Shape                  | Folds |   before |    after |   change | least | most | ratio before | after |\n|---|---|---|---|---|---|---|---|---|")
+    for (shape, _, folds), runs in lines.items():
+        runs = [said(places) for places in runs.values()]
+        change = lambda b, a, c: (a / b - 1) * 100
+        print("| %-22s | %s | %8.2f | %8.2f | %+6.1f %% | %+5.1f | %+5.1f | %.2f | %.2f |" % (
+            shape, folds, middle(runs, lambda b, a, c: b), middle(runs, lambda b, a, c: a), middle(runs, change), *ends(runs, change),
+            middle(runs, lambda b, a, c: b / c), middle(runs, lambda b, a, c: a / c)))
+
+
+print("medians of %d runs, in microseconds a call\n" % min(len(runs) for runs in lines.values()))
+{"run": table_of_run, "turns": table_of_turns}[sys.argv[1]]()

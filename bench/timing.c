@@ -1,6 +1,7 @@
 #define _POSIX_C_SOURCE 200809L
 #include "timing.h"
 
+#include <stdio.h>
 #include <stdlib.h>
 #include <time.h>
 
@@ -15,7 +16,8 @@ static int by_value(const void *a, const void *b) {
     return (x > y) - (x < y);
 }
 
-double median(double *values, size_t count) {
+// The median of `count` values, which are sorted.
+static double median(double *values, size_t count) {
     qsort(values, count, sizeof *values, by_value);
     return (values[(count - 1) / 2] + values[count / 2]) / 2;
 }
@@ -34,7 +36,8 @@ static size_t batch_for(call *f, const struct text *text, uint64_t folds) {
     return batch;
 }
 
-void measure(call *const calls[], size_t count, const struct text *text, uint64_t folds, double result[]) {
+// The median of SAMPLES samples of each call.
+static void measure(call *const calls[], size_t count, const struct text *text, uint64_t folds, double result[]) {
     static double samples[MOST_CALLS][SAMPLES];
     size_t batch[MOST_CALLS];
     for (size_t c = 0; c < count; c++) batch[c] = batch_for(calls[c], text, folds);
@@ -45,4 +48,22 @@ void measure(call *const calls[], size_t count, const struct text *text, uint64_
         }
     }
     for (size_t c = 0; c < count; c++) result[c] = median(samples[c], SAMPLES);
+}
+
+static void time_shape(call *const calls[], size_t count, const struct shape *shape, uint64_t folds, agreement *alike) {
+    static struct text text;
+    double t[MOST_CALLS];
+    shape->make(&text);
+    alike(shape, &text, folds);
+    measure(calls, count, &text, folds, t);
+    printf("%s\t%zu\t%d", shape->name, text.length, (int)folds);
+    for (size_t c = 0; c < count; c++) printf("\t%.4f", t[c]);
+    printf("\n");
+}
+
+void time_shapes(call *const calls[], size_t count, agreement *alike) {
+    for (size_t s = 0; s < shape_count; s++) {
+        if (!shapes[s].reading) time_shape(calls, count, &shapes[s], 0, alike);
+        time_shape(calls, count, &shapes[s], DPB_FOLDS, alike);
+    }
 }

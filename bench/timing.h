@@ -4,17 +4,19 @@
 
 #include "shapes.h"
 
-enum { SAMPLES = 101, WARM = 5, MOST_CALLS = 3 };
+// A program is one of sixteen, which lie at different places (bench/places.bash): so many samples there are 240 in all.
+enum { SAMPLES = 15, WARM = 2, MOST_CALLS = 3 };
 
 typedef uint64_t call(const uint8_t *, size_t, uint64_t, uint8_t *, size_t);
 
 // Microseconds for one call, over a batch.
 double sample(call *f, const struct text *text, uint64_t folds, size_t batch);
 
-// The median of `count` values, which are sorted.
-double median(double *values, size_t count);
+// Ends the program, with a word, unless the calls agree on a shape's text.
+typedef void agreement(const struct shape *shape, const struct text *text, uint64_t folds);
 
-// The calls by turns, so that what slows the machine for a while slows all of them: the median of SAMPLES samples of each.
-void measure(call *const calls[], size_t count, const struct text *text, uint64_t folds, double result[]);
+// Times the calls on each shape, without folds and with all of them, a shape that is only read with all alone. They go by turns, so that what slows the
+// machine for a while slows all of them. Prints lines of the shape's name, its bytes, the folds and the median microseconds of each call, parted by tabs.
+void time_shapes(call *const calls[], size_t count, agreement *alike);
 
 #endif
