@@ -84,6 +84,11 @@ static void demand_shape(const struct shape *shape, const struct text *text, uin
     demand((number != 0) == shape->reading, shape->name, folds);
 }
 
+static int usage(void) {
+    fprintf(stderr, "usage: bench compare | times | dpb_list|baseline|counting SHAPE FOLDS TIMES\n");
+    return 2;
+}
+
 // Calls one program on one shape over and over, for a profiler.
 static int repeat(const char *who, size_t s, uint64_t folds, size_t times) {
     static struct text text;
@@ -93,8 +98,7 @@ static int repeat(const char *who, size_t s, uint64_t folds, size_t times) {
         sample(calls[c], &text, folds, times);
         return 0;
     }
-    fprintf(stderr, "usage: bench compare | times | dpb_list|baseline|counting SHAPE FOLDS TIMES\n");
-    return 2;
+    return usage();
 }
 
 int main(int argc, char **argv) {
@@ -107,5 +111,5 @@ int main(int argc, char **argv) {
         return 0;
     }
     if (argc == 5) return repeat(argv[1], strtoul(argv[2], NULL, 10), strtoul(argv[3], NULL, 10), strtoul(argv[4], NULL, 10));
-    return repeat("", 0, 0, 0);
+    return usage();
 }

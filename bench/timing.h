@@ -4,7 +4,7 @@
 
 #include "shapes.h"
 
-// A program is one of sixteen, which lie at different places (bench/places.bash): so many samples there are 240 in all.
+// Few samples, since a run is sixteen programs (bench/places.bash).
 enum { SAMPLES = 15, WARM = 2, MOST_CALLS = 3 };
 
 typedef uint64_t call(const uint8_t *, size_t, uint64_t, uint8_t *, size_t);
