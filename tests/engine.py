@@ -1,7 +1,8 @@
 # A reader, a writer and an engine written apart from ours, from the documents alone, which the checks of tests/ share. The reader goes by regular
-# expressions over whole lines, made from the folding table that it is lent; the writer by what the reader makes of its text. Rows are Python
-# sets, standardised by the four kinds of document 01; no fold is made, the rows after k folds are the atoms reached in exactly 2^k steps along
-# rows; rounds go by their definition. What is held, a work list over the spellings of the rules says, and for few names every model there is.
+# expressions over whole lines, made from the folding table that it is lent, and finds the fault of a bad line by trying how its first bytes could go
+# on; the writer goes by what the reader makes of its text. Rows are Python sets, standardised by the four kinds of document 01; no fold is made, the
+# rows after k folds are the atoms reached in exactly 2^k steps along rows; rounds go by their definition. What is held, a work list over the
+# spellings of the rules says, and for few names every model there is.
 import functools
 import itertools
 import math
@@ -58,13 +59,50 @@ def judge(table):
         raise Refused(Refusal.UNSETTLED_ENTRY)
 
 
+# Lines without their ends.
+
+
 @functools.lru_cache(4096)
 def forms(entries):
-    """regular expressions for a name and for a rule, head and body apart; where no byte has an entry there is no name"""
-    known = b"".join(re.escape(bytes([byte])) for byte in range(LETTER_BYTES) if entries[byte])
-    name = b"[" + known + b"]+" if known else b"(?!)"
-    rule = rb"[ \t]*(" + name + rb")[ \t]*:[ \t]*(" + name + rb"(?:[ \t]+" + name + rb")*)?[ \t]*"
-    return re.compile(name), re.compile(rule)
+    """the bytes that have an entry, and regular expressions for a run of them and for a rule, head and body apart; where no byte has an entry
+    there is no name"""
+    known = bytes(byte for byte in range(LETTER_BYTES) if entries[byte])
+    known_byte = b"[" + b"".join(re.escape(bytes([byte])) for byte in known) + b"]" if known else b"(?!)"
+    name = known_byte + b"{1,%d}" % NAME_BYTES
+    rule = rb"[ \t]*(" + name + rb")[ \t]*:[ \t]*((?:" + name + rb"(?:[ \t]+" + name + rb")*[ \t]*)?)"
+    return known, re.compile(known_byte + b"+"), re.compile(rule)
+
+
+def names_in(line, entries):
+    """the names of a line of a listed form, the head first: none in a blank line or a remark. None where the line has no listed form"""
+    _, run_form, rule_form = forms(entries)
+    if line.startswith(b"#") or not line.strip(b" \t"):
+        return []
+    rule = rule_form.fullmatch(line)
+    return rule and [rule[1], *run_form.findall(rule[2])]
+
+
+def viable(prefix, entries):
+    """whether some continuation of a line's first bytes is of a listed form. Blanks and a remark are one as they stand, and so is a rule after each
+    byte from its colon on: what others can lack is a colon alone"""
+    return any(names_in(prefix + more, entries) is not None for more in (b"", b":"))
+
+
+def fault(line, entries):
+    """the number under which a line of no listed form is refused (document 02, 2.1): by the first byte that leaves none possible, or by the line's
+    end"""
+    # what begins a viable prefix is viable: so the longest one is found by halving
+    longest, past = 0, len(line) + 1
+    while past - longest > 1:
+        middle = (longest + past) // 2
+        longest, past = (middle, past) if viable(line[:middle], entries) else (longest, middle)
+    if longest == len(line):
+        return Refusal.LINE
+    byte, known = line[longest], forms(entries)[0]
+    if byte not in known and byte not in b" \t:":
+        return Refusal.BARRED_BYTE
+    run = past - len(line[:past].rstrip(known))
+    return Refusal.LONG_NAME if run == NAME_BYTES + 1 else Refusal.LINE
 
 
 # Books.
@@ -84,15 +122,15 @@ def read(text, table=LETTERS, most=TEXT_BYTES):
         raise Refused(Refusal.MARK)
     if not text.endswith(b"\n"):
         raise Refused(Refusal.LAST_BYTE)
-    name_form, rule_form = forms(table[:LETTER_BYTES])
+    entries = table[:LETTER_BYTES]
     numbers, rules = {}, []
     for place, line in enumerate(text.split(b"\n")[1:-1]):
-        if line.startswith(b"#") or not line.strip(b" \t"):
+        spelt = names_in(line, entries)
+        if spelt is None:
+            raise Refused(fault(line, entries), place + 2)
+        if not spelt:
             continue
-        form = rule_form.fullmatch(line)
-        spelt = [name.translate(table[:LETTER_BYTES]) for name in [form[1], *name_form.findall(form[2] or b"")]] if form else []
-        if not form or any(len(name) > NAME_BYTES for name in spelt):
-            raise Refused(Refusal.LINE, place + 2)
+        spelt = [name.translate(entries) for name in spelt]
         if len(rules) == RULES:
             raise Refused(Refusal.RULES, place + 2)
         for name in spelt:

@@ -47,6 +47,8 @@ class Refusal:
     ILL_FORMED = 10
     START_LOST = 11
     LONG_WRITTEN = 12
+    LONG_NAME = 13
+    BARRED_BYTE = 14
     RESERVED_BYTE = 20
     UNSETTLED_ENTRY = 21
 
@@ -59,13 +61,15 @@ WORDS = {
     Refusal.MARK: "the first line is not the mark DPB 0001: look for an empty input, a byte order mark before it, "
     "a carriage return after it, a mark of another version",
     Refusal.LAST_BYTE: "the last line has no line end: end it, and look whether the text was cut off",
-    Refusal.LINE: "not a rule, a remark or an empty line: "
-    "look for a missing colon, a carriage return, an accent, a comma",
+    Refusal.LINE: "not a rule, a remark or an empty line: look for a missing colon, two colons, "
+    "no name or two names before the colon",
     Refusal.NAMES: "this line has the 129th name: look for a name spelt in two ways, or split the book",
     Refusal.RULES: "this line is the 257th rule: drop rules given twice, or split the book",
     Refusal.ATOMS: "over 256 atoms, which are the names and one more for each rule whose head has several: "
     "give fewer names several rules",
     Refusal.FOLDS: "over 8 folds: ask for 0 to 8",
+    Refusal.LONG_NAME: "a name of over 32 bytes: shorten it, or look for a blank or a colon left out",
+    Refusal.BARRED_BYTE: "a byte that no rule has: look for a carriage return, an accent, a comma, a # that is not first",
 }
 NO_WORDS = "refused, under a number that this release has no words for"
 

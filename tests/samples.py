@@ -1,8 +1,9 @@
-# Books that several checks of tests/ use: rules as document 01 writes them, one a line. Limits and the printed book's figures are those of figures.py.
+# Books that several checks of tests/ use: rules as document 01 writes them, one a line; and lines of no listed form, with the numbers that are due by
+# hand. Limits, refusals and the printed book's figures are those of figures.py.
 import os
 import re
 
-from figures import ATOMS, FOLDS, MARK, NAME_BYTES, NAMES, TEXT_BYTES, Printed
+from figures import ATOMS, FOLDS, MARK, NAME_BYTES, NAMES, RULES, TEXT_BYTES, Printed, Refusal
 
 # Marked * in document 01: rules, names held, rounds by folds (worked out where the text has none).
 KNOWN = {
@@ -103,6 +104,107 @@ def large_books():
     for n in (64, 66, 100, NAMES - 2, NAMES):
         both_ways = ["n%d:n%d" % (i, j) for i in range(1, 63) for j in (i - 1, i + 1)]
         yield "helpers_from_%d" % n, ["n0:" + numbered("n", range(1, n)), "n0:n1"] + both_ways + ["n63:"]
+
+
+# Lines of no listed form, each with the number of its leftmost fault (document 02, 2.1), worked out by hand. Other bytes than small letters, digits,
+# blanks and colons are reserved, so that the numbers are the same under every folding table that knows these letters.
+FULL_NAME = (b"abcdefghijklmnopqrstuvwxyz0123456789" * NAME_BYTES)[:NAME_BYTES]
+OVERLONG = FULL_NAME + b"6"
+BAD_LINES = {
+    Refusal.LINE: {
+        "no_colon": b"a",
+        "no_colon_but_a_blank": b"a ",
+        "no_colon_after_full_name": b"\t" + FULL_NAME,
+        "colon_first": b":",
+        "colon_after_blanks": b" \t:a",
+        "colon_first_then_overlong": b":" + OVERLONG,
+        "colon_first_then_barred": b": \r",
+        "two_colons": b"a::",
+        "two_colons_then_barred": b"a: :\r",
+        "two_colons_then_overlong": b"a::" + OVERLONG,
+        "colon_after_body": b"a:b:",
+        "colon_after_body_and_blank": b"a:b c :d",
+        "colon_after_full_body_name": b"a:" + FULL_NAME + b":",
+        "two_heads": b"a b",
+        "two_heads_and_colon": b"a\tb:c",
+        "two_heads_then_barred": b"a b\r",
+        "two_heads_barred_inside": b"a b!c:",
+        "second_head_overlong": b"a " + OVERLONG,
+        "second_head_after_full_name": FULL_NAME + b" b:",
+    },
+    Refusal.LONG_NAME: {
+        "overlong_alone": OVERLONG,
+        "overlong_head": OVERLONG + b":b",
+        "overlong_head_after_blanks": b" \t " + OVERLONG + b" :",
+        "overlong_head_then_barred": OVERLONG + b"\r",
+        "overlong_head_then_second": OVERLONG + b" b:",
+        "overlong_head_then_colons": OVERLONG + b"::",
+        "overlong_body": b"a:" + OVERLONG,
+        "overlong_last_in_body": b"a: b " + FULL_NAME + b"\t" + OVERLONG + b" ",
+        "overlong_first_in_body": b"a:" + OVERLONG + b" b",
+        "overlong_body_then_barred": b"a:b " + OVERLONG + b"!",
+        "overlong_body_then_colon": b"a:" + OVERLONG + b":",
+        "overlong_body_then_remark": b"a:" + OVERLONG + b" # b",
+        "twice_as_long": b"a:" + FULL_NAME + FULL_NAME,
+        "overlong_twice": OVERLONG + b":" + OVERLONG,
+    },
+    Refusal.BARRED_BYTE: {
+        "barred_remark_after_blank": b" # a",
+        "barred_remark_after_rule": b"a:b#",
+        "barred_remark_after_head": b"a #b:",
+        "barred_denial": b"!x",
+        "barred_denial_with_body": b"!:a b",
+        "barred_edition": b"@1",
+        "barred_zero": b"\0",
+        "barred_zero_in_body": b"a:b \0 c",
+        "barred_alone": b"\r",
+        "barred_alone_after_blanks": b"\t \r",
+        "barred_after_head": b"a\r",
+        "barred_after_head_and_blank": b"a \r",
+        "barred_after_full_name": FULL_NAME + b"\r",
+        "barred_before_colon": b"a!:b",
+        "barred_after_colon": b"a:\r",
+        "barred_after_body": b"a:b\r",
+        "barred_after_body_and_blank": b"a:b \r",
+        "barred_after_full_body_name": b"a:b " + FULL_NAME + b"@",
+        "barred_before_overlong_head": b"@" + OVERLONG + b":",
+        "barred_before_overlong_body": b"a:! " + OVERLONG,
+        "barred_before_colon_in_body": b"a:\0:",
+        "barred_before_second_head": b"a! b",
+    },
+}
+
+
+def each_bad_line():
+    """its name, the line and its number"""
+    for number, lines in BAD_LINES.items():
+        for name, line in lines.items():
+            yield name, line, number
+
+
+def bad_books():
+    """the lines of books by name, with the number and the line that are due. 13 and 14 stand at 5's place: in one line before the 257th rule and the
+    129th name, and of several lines the first decides"""
+    # the known books of the request
+    yield f"name_{NAME_BYTES + 1}", [OVERLONG + b":b"], Refusal.LONG_NAME, 2
+    yield "carriage_return_in_rule", [b"a:b\r"], Refusal.BARRED_BYTE, 2
+    all_rules, over_names = [b"a:"] * RULES, b"n:" + b" ".join(b"n%d" % i for i in range(NAMES))
+    # a line as long as can be
+    room = TEXT_BYTES - len(MARK) - 1
+    faults = (Refusal.LINE, "colon", b" :"), (Refusal.LONG_NAME, "overlong", b" " + OVERLONG), (Refusal.BARRED_BYTE, "barred", b" \r")
+    for number, kind, fault in faults:
+        bad = b"a:" + fault
+        yield f"{kind}_in_rule_{RULES + 1}", [*all_rules, bad], number, RULES + 2
+        yield f"{kind}_below_rule_{RULES + 1}", [*all_rules, b"a:", bad], Refusal.RULES, RULES + 2
+        yield f"{kind}_above_rule_{RULES + 1}", [bad, *all_rules, b"a:"], number, 2
+        yield f"{kind}_beside_name_{NAMES + 1}", [b"", over_names + fault], number, 3
+        yield f"{kind}_below_name_{NAMES + 1}", [b"", over_names, bad], Refusal.NAMES, 3
+        yield f"{kind}_above_name_{NAMES + 1}", [b"#", bad, over_names], number, 3
+        yield f"{kind}_beside_both", [*all_rules, over_names + fault], number, RULES + 2
+        yield f"{kind}_on_a_long_line", [b"a:" + (b" b" * room)[-(room - len(bad)):] + fault], number, 2
+    yield "overlong_above_barred", [b"a:", b"a:" + OVERLONG, b"a:\r"], Refusal.LONG_NAME, 3
+    yield "barred_above_overlong", [b"a:", b"a:\r", b"a:" + OVERLONG], Refusal.BARRED_BYTE, 3
+    yield "no_colon_above_both", [b"a", b"a:\r", b"a:" + OVERLONG], Refusal.LINE, 2
 
 
 def mixed(chance, names, rules, near):

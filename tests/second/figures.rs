@@ -41,11 +41,13 @@ pub mod refusal {
     pub const ILL_FORMED: u64 = 10;
     pub const START_LOST: u64 = 11;
     pub const LONG_WRITTEN: u64 = 12;
+    pub const LONG_NAME: u64 = 13;
+    pub const BARRED_BYTE: u64 = 14;
     pub const RESERVED_BYTE: u64 = 20;
     pub const UNSETTLED_ENTRY: u64 = 21;
 
     /// Those that the call for C returns.
-    pub const RETURNED: [u64; 9] = [SHORT_AREA, LONG_TEXT, MARK, LAST_BYTE, LINE, NAMES, RULES, ATOMS, FOLDS];
+    pub const RETURNED: [u64; 11] = [SHORT_AREA, LONG_TEXT, MARK, LAST_BYTE, LINE, NAMES, RULES, ATOMS, FOLDS, LONG_NAME, BARRED_BYTE];
 }
 
 /// The book that document 01 prints: its rules, its names, those held, the rounds by folds, its atoms, c and h.

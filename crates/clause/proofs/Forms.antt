@@ -13,12 +13,13 @@ use Rattle.sets.specs.Set.{pick}
 use Rattle.sets.proofs.Logic.{either, and-left, pick-true, pick-false}
 use Rattle.grammar.specs.Bytes.{Bytes, Folding, blank, notEnd, nameByte, allOf, colon, lineEnd}
 use Rattle.grammar.specs.Grammar.{Clause, Form, rule, fault, spelling}
-use Rattle.grammar.specs.Lines.{span, run, past, wordsOf, isName, allNames, starts, fromColon, fromHead}
-use Rattle.grammar.proofs.Spans.{all-run, past-past}
-use Rattle.grammar.proofs.Words.{blank-end, name-end, uncolon, words-nil, words-past, names-nil, words-fault, words-sound, words-more}
+use Rattle.grammar.specs.Lines.{span, run, past, wordsOf, isName, allNames, starts, byteFault, wordFault, wordsFault, fromBody, fromColon, fromHead}
+use Rattle.grammar.proofs.Spans.{run-size, all-run, past-past}
+use Rattle.grammar.proofs.Words.{blank-end, name-end, uncolon, with-colon, all-named, not-named, words-nil, words-past, names-nil, words-sound, words-more}
+use Rattle.grammar.proofs.Sorts.{words-nil as none-sound, all-sound, fault-words, sound-words}
 use Rattle.scan.specs.Places.{pastAt, nameRun}
 use Rattle.clause.specs.Line.{LineEnds, lineAt, formFrom, wordsAt, unblank, unword, faultOf}
-use Rattle.clause.proofs.Places.{run-size, starts-eq, closed-past, line-past, run-line, end-past, sees-line, sees-end, end-here, sees-more, closed-next}
+use Rattle.clause.proofs.Places.{starts-eq, closed-past, line-past, run-line, end-past, sees-line, sees-end, end-here, sees-more, closed-next}
 use Rattle.clause.proofs.Places.{line-next, end-next, in-text}
 
 module _ (fold : ℕ → ℕ) where
@@ -70,6 +71,7 @@ pub record Walk (fold : ℕ → ℕ) (t : Bytes) (i j : ℕ) (ds : List Bytes) :
   pub trim : Trim t j
   pub ends : pastAt notEnd t j ≡ pastAt notEnd t i
   pub tells : allNames fold (wordsAt t j) ≡ allNames fold (wordsAt t i)
+  pub sorts : wordsFault fold (wordsAt t j) ≡ wordsFault fold (wordsAt t i)
   pub words : allNames fold (wordsAt t j) ≡ true → wordsAt t i ≡ ds ++ wordsAt t j
 
 module _ (fold : ℕ → ℕ) (law : Folding fold) where
@@ -117,21 +119,28 @@ module _ (fold : ℕ → ℕ) (law : Folding fold) where
   -- a line with bytes
   from-head : (s : Bytes) → (s ≡ [] → ⊥)
       → fromHead fold s
-      ≡ pick (isName fold (run (nameByte fold) s)) (fromColon fold (run (nameByte fold) s) (past blank (past (nameByte fold) s))) (fault 5)
+      ≡ pick (isName fold (run (nameByte fold) s)) (fromColon fold (run (nameByte fold) s) (past blank (past (nameByte fold) s)))
+      (fault (wordFault fold s))
   unfolding fromHead
   from-head [] n = absurd (n refl)
   from-head (b ∷ s) n = refl
 
-  -- a colon: the words behind it tell
-  with-colon : (h u : Bytes) → fromColon fold h (colon ∷ u) ≡ pick (allNames fold (wordsOf u)) (rule (spelling fold h (wordsOf u))) (fault 5)
-  unfolding fromColon
-  with-colon h u = refl
-
   -- a rule by what it says
-  picked : (b : Bool) (x c : Clause) → pick b (rule x) (fault 5) ≡ rule c → (b ≡ true) × (x ≡ c)
+  said-rule : (b : Bool) (x c : Clause) (k : ℕ) → pick b (rule x) (fault k) ≡ rule c → (b ≡ true) × (x ≡ c)
   unfolding pick
-  picked true x c e = (refl, cc)
-  picked false x c e = let z : _≡_ {A = ℕ} 0 1 = cc in absurd (omega arith)
+  said-rule true x c k e = (refl, cc)
+  said-rule false x c k e = let z : _≡_ {A = ℕ} 0 1 = cc in absurd (omega arith)
+
+  bodied : (h u : Bytes) (c : Clause) → fromBody fold h u ≡ rule c → (allNames fold (wordsOf u) ≡ true) × (spelling fold h (wordsOf u) ≡ c)
+  unfolding fromBody
+  bodied h u c e = said-rule (allNames fold (wordsOf u)) (spelling fold h (wordsOf u)) c (wordsFault fold (wordsOf u)) e
+
+  -- the number of what stands behind a colon
+  body-number : (h u : Bytes) → wordsFault fold (wordsOf u) ≡ faultOf (fromBody fold h u)
+  unfolding faultOf
+  body-number h u =
+      either (allNames fold (wordsOf u)) (λ a. all-sound fold (wordsOf u) a ∙ sym (ap faultOf (all-named fold h u a)))
+      (λ a. sym (ap faultOf (not-named fold h u a)))
 
   -- a line whose head should stand at place i, before its end
   module _ (t : Bytes) (i : ℕ) (k : LineEnds t i) (e : starts lineEnd (drop i t) ≡ false) where
@@ -139,14 +148,22 @@ module _ (fold : ℕ → ℕ) (law : Folding fold) where
     not-empty q = sees-more t i k e (λ b u p. let z : _≡_ {A = ℕ} 0 1 = cc in omega arith)
 
     -- by its head
-    pub by-head : formFrom fold t i ≡ pick (isName fold (nameRun fold t i)) (fromColon fold (nameRun fold t i) (past blank (past (nameByte fold) (lineAt t i)))) (fault 5)
+    by-head : formFrom fold t i
+        ≡ pick (isName fold (nameRun fold t i)) (fromColon fold (nameRun fold t i) (past blank (past (nameByte fold) (lineAt t i))))
+        (fault (wordFault fold (lineAt t i)))
     by-head =
         from-head (lineAt t i) not-empty
-        ∙ ap (λ (h : Bytes). pick (isName fold h) (fromColon fold h (past blank (past (nameByte fold) (lineAt t i)))) (fault 5)) (sym (run-name t i k))
+        ∙ ap (λ (h : Bytes). pick (isName fold h) (fromColon fold h (past blank (past (nameByte fold) (lineAt t i)))) (fault (wordFault fold (lineAt t i))))
+        (sym (run-name t i k))
 
     -- no name there: no rule
-    pub headless : isName fold (nameRun fold t i) ≡ false → formFrom fold t i ≡ fault 5
-    headless n = by-head ∙ pick-false _ (fault 5) n
+    pub headless : isName fold (nameRun fold t i) ≡ false → formFrom fold t i ≡ fault (wordFault fold (lineAt t i))
+    headless n = by-head ∙ pick-false _ (fault (wordFault fold (lineAt t i))) n
+
+    -- a name: by what stands behind it
+    pub with-head : isName fold (nameRun fold t i) ≡ true
+        → formFrom fold t i ≡ fromColon fold (nameRun fold t i) (past blank (past (nameByte fold) (lineAt t i)))
+    with-head n = by-head ∙ pick-true _ (fault (wordFault fold (lineAt t i))) n
 
     -- the place behind the head and its blanks
     module _ (mid : ℕ) (at : mid ≡ unword fold t i) where
@@ -159,22 +176,21 @@ module _ (fold : ℕ → ℕ) (law : Folding fold) where
       mid-sees : starts colon (drop mid t) ≡ starts colon (past blank (past (nameByte fold) (lineAt t i)))
       mid-sees = sees-line t mid mid-closed colon refl ∙ ap (starts colon) mid-line
 
+      -- it lies in the text
+      pub behind-in : mid < length t
+      behind-in = subst (λ (j : ℕ). j < length t) (sym at) (in-text t (pastAt (nameByte fold) t i) (after-word t i k) blank blank-end)
+
       -- no colon there
-      pub uncoloned : starts colon (drop mid t) ≡ false → formFrom fold t i ≡ fault 5
-      uncoloned c =
-          by-head
-          ∙ either (isName fold (nameRun fold t i))
-          (λ n. pick-true _ (fault 5) n ∙ uncolon fold (nameRun fold t i) (past blank (past (nameByte fold) (lineAt t i))) (sym mid-sees ∙ c))
-          (λ n. pick-false _ (fault 5) n)
+      pub uncoloned : isName fold (nameRun fold t i) ≡ true → starts colon (drop mid t) ≡ false → formFrom fold t i ≡ fault (byteFault fold (lineAt t mid))
+      uncoloned n c =
+          with-head n ∙ ap (fromColon fold (nameRun fold t i)) (sym mid-line)
+          ∙ uncolon fold (nameRun fold t i) (lineAt t mid) (ap (starts colon) mid-line ∙ sym mid-sees ∙ c)
 
       module _ (c : starts colon (drop mid t) ≡ true) where
         seen : (u : Bytes) × (lineAt t mid ≡ colon ∷ u)
         seen = starts-eq colon (lineAt t mid) (sym (sees-line t mid mid-closed colon refl) ∙ c)
 
-        -- the colon lies in the text, and the line goes on behind it
-        pub colon-in : mid < length t
-        colon-in = subst (λ (j : ℕ). j < length t) (sym at) (in-text t (pastAt (nameByte fold) t i) (after-word t i k) blank blank-end)
-
+        -- the line goes on behind the colon
         pub closed-body : LineEnds t (mid + 1)
         closed-body = closed-next t mid mid-closed colon (seen .0) (seen .1)
 
@@ -187,22 +203,17 @@ module _ (fold : ℕ → ℕ) (law : Folding fold) where
             sym mid-line ∙ seen .1 ∙ ap (λ (x : Bytes). colon ∷ x) (sym (line-next t mid mid-closed colon (seen .0) (seen .1)))
 
         -- a head and a colon: the words behind it tell
-        coloned : isName fold (nameRun fold t i) ≡ true
-            → formFrom fold t i ≡ pick (allNames fold (wordsAt t (mid + 1))) (rule (spelling fold (nameRun fold t i) (wordsAt t (mid + 1)))) (fault 5)
+        coloned : isName fold (nameRun fold t i) ≡ true → formFrom fold t i ≡ fromBody fold (nameRun fold t i) (lineAt t (mid + 1))
         coloned n =
-            by-head ∙ pick-true _ (fault 5) n ∙ ap (fromColon fold (nameRun fold t i)) body-is ∙ with-colon (nameRun fold t i) (lineAt t (mid + 1))
+            with-head n ∙ ap (fromColon fold (nameRun fold t i)) body-is ∙ with-colon fold (nameRun fold t i) (lineAt t (mid + 1))
 
-        pub judged : isName fold (nameRun fold t i) ≡ true → pick (allNames fold (wordsAt t (mid + 1))) 0 5 ≡ faultOf (formFrom fold t i)
-        unfolding faultOf
-        judged n =
-            either (allNames fold (wordsAt t (mid + 1)))
-            (λ q. pick-true 0 5 q ∙ sym (ap faultOf (coloned n ∙ pick-true _ (fault 5) q)))
-            (λ q. pick-false 0 5 q ∙ sym (ap faultOf (coloned n ∙ pick-false _ (fault 5) q)))
+        pub judged : isName fold (nameRun fold t i) ≡ true → wordsFault fold (wordsAt t (mid + 1)) ≡ faultOf (formFrom fold t i)
+        judged n = body-number (nameRun fold t i) (lineAt t (mid + 1)) ∙ sym (ap faultOf (coloned n))
 
         -- a rule says the clause that they spell
         pub says : isName fold (nameRun fold t i) ≡ true → (d : Clause) → formFrom fold t i ≡ rule d
             → (allNames fold (wordsAt t (mid + 1)) ≡ true) × (spelling fold (nameRun fold t i) (wordsAt t (mid + 1)) ≡ d)
-        says n d q = picked (allNames fold (wordsAt t (mid + 1))) (spelling fold (nameRun fold t i) (wordsAt t (mid + 1))) d (sym (coloned n) ∙ q)
+        says n d q = bodied (nameRun fold t i) (lineAt t (mid + 1)) d (sym (coloned n) ∙ q)
 
   -- Words.
 
@@ -236,9 +247,10 @@ module _ (fold : ℕ → ℕ) (law : Folding fold) where
           ap wordsOf (line-unword t i k) ∙ sym (words-past (past (nameByte fold) (lineAt t i)))
           ∙ ap (λ (x : Bytes). wordsOf (past (nameByte fold) x)) (sym trim)
 
-      -- no name there: the words are not all names
-      unsound : isName fold (nameRun fold t i) ≡ false → allNames fold (wordsAt t i) ≡ false
-      unsound n = first (λ b u q. words-fault fold law (lineAt t i) b u q (sym (ap (isName fold) same-run) ∙ n))
+      -- no name there: the fault of the words is that of the line from there on
+      unsound : isName fold (nameRun fold t i) ≡ false → wordsFault fold (wordsAt t i) ≡ wordFault fold (lineAt t i)
+      unsound n =
+          first (λ b u q. fault-words fold law (lineAt t i) b u q (sym (ap (isName fold) same-run) ∙ n)) ∙ ap (wordFault fold) trim
 
       -- a name: they are where those behind it are
       sound : isName fold (nameRun fold t i) ≡ true → allNames fold (wordsAt t (unword fold t i)) ≡ allNames fold (wordsAt t i)
@@ -246,6 +258,13 @@ module _ (fold : ℕ → ℕ) (law : Folding fold) where
           first
           (λ b u q.
           ap (allNames fold) words-on ∙ sym (words-sound fold law (lineAt t i) b u q (sym (ap (isName fold) same-run) ∙ n)))
+
+      -- and have the fault of those
+      sorted : isName fold (nameRun fold t i) ≡ true → wordsFault fold (wordsAt t (unword fold t i)) ≡ wordsFault fold (wordsAt t i)
+      sorted n =
+          first
+          (λ b u q.
+          ap (wordsFault fold) words-on ∙ sound-words fold law (lineAt t i) b u q (sym (ap (isName fold) same-run) ∙ n))
 
       -- and then they are that name and those behind it
       words-cons : allNames fold (wordsAt t i) ≡ true → wordsAt t i ≡ nameRun fold t i ∷ wordsAt t (unword fold t i)
@@ -265,6 +284,7 @@ module _ (fold : ℕ → ℕ) (law : Folding fold) where
           trim = subst (Trim t) (sym e) (trim-unblank t i k);
           ends = refl;
           tells = refl;
+          sorts = refl;
           words = λ a. refl;
         }
 
@@ -277,12 +297,12 @@ module _ (fold : ℕ → ℕ) (law : Folding fold) where
 
   module _ (t : Bytes) (i j : ℕ) (ds : List Bytes) (w : Walk fold t i j ds) where
     -- a word that is no name
-    pub walk-fault : starts lineEnd (drop j t) ≡ false → isName fold (nameRun fold t j) ≡ false → false ≡ allNames fold (wordsAt t i)
-    walk-fault e n = sym (unsound t j (w .closed) (w .trim) e n) ∙ w .tells
+    pub walk-fault : starts lineEnd (drop j t) ≡ false → isName fold (nameRun fold t j) ≡ false → wordFault fold (lineAt t j) ≡ wordsFault fold (wordsAt t i)
+    walk-fault e n = sym (unsound t j (w .closed) (w .trim) e n) ∙ w .sorts
 
     -- the line's end: each word was a name, and they are all passed
-    pub walk-sound : starts lineEnd (drop j t) ≡ true → true ≡ allNames fold (wordsAt t i)
-    walk-sound e = sym (ap (allNames fold) (words-end t j (w .closed) e) ∙ names-nil fold) ∙ w .tells
+    pub walk-sound : starts lineEnd (drop j t) ≡ true → 0 ≡ wordsFault fold (wordsAt t i)
+    walk-sound e = sym (ap (wordsFault fold) (words-end t j (w .closed) e) ∙ none-sound fold) ∙ w .sorts
 
     pub walk-end : starts lineEnd (drop j t) ≡ true → j ≡ pastAt notEnd t i
     walk-end e = end-here t j (w .closed) e ∙ w .ends
@@ -303,6 +323,7 @@ module _ (fold : ℕ → ℕ) (law : Folding fold) where
           trim = trim-unword t j (w .closed);
           ends = end-unword t j (w .closed) ∙ w .ends;
           tells = tell ∙ w .tells;
+          sorts = sorted t j (w .closed) (w .trim) e n ∙ w .sorts;
           words =
               λ a.
               w .words (sym tell ∙ a) ∙ ap (λ (ws : List Bytes). ds ++ ws) (words-cons t j (w .closed) (w .trim) e (sym tell ∙ a))

@@ -1,5 +1,6 @@
 pub mod Places
 pub mod Forms
+pub mod Sorting
 pub mod Rows
 pub mod Meeting
 pub mod Joining

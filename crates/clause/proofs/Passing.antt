@@ -4,15 +4,13 @@ use mathlib.Core.Path.{_≡_, refl, sym, ap, _∙_, subst}
 use mathlib.Core.Bool.{Bool, true, false}
 use mathlib.Core.List.{List, [], _∷_, _++_, map}
 use Prim.Native.Nat.{ℕ}
-use native.Mathlib.Omega.{arith}
 use lib.ListN.{drop}
 use Rattle.limits.specs.Book.{nameArea}
-use Rattle.sets.specs.Set.{pick}
-use Rattle.sets.proofs.Logic.{pick-true, pick-false}
 use Rattle.grammar.specs.Bytes.{Bytes, Folding, lineEnd}
-use Rattle.grammar.specs.Lines.{isName, allNames, starts}
+use Rattle.grammar.specs.Lines.{isName, starts, wordFault, wordsFault}
+use Rattle.grammar.proofs.Sorts.{word-some}
 use Rattle.scan.specs.Places.{nameRun, nameFolded}
-use Rattle.clause.specs.Line.{LineEnds, unblank, unword, wordsAt}
+use Rattle.clause.specs.Line.{LineEnds, lineAt, unblank, unword}
 use Rattle.clause.proofs.Forms.{Walk, walk-start, same-words, same-end, walk-fault, walk-sound, walk-end, walk-all, walk-on}
 use Rattle.clause.specs.Found.{Kept, Lexicon, namesAt, InOrder, Onward, Bodied}
 use Rattle.clause.proofs.Rows.{kept-same, kept-on}
@@ -66,27 +64,21 @@ module _ (fold : ℕ → ℕ) (law : Folding fold) (t : Bytes) (i j : ℕ) (room
     -- at the start there were blanks, from place b
     module _ (b : ℕ) (k : LineEnds t b) (s : i ≡ unblank t b) where
       -- a word that is no name
-      pub passed-fault : (at : ℕ) → starts lineEnd (drop j t) ≡ false → isName fold (nameRun fold t j) ≡ false
-          → Bodied fold t b room x 5 at room₁ x₁ row row₁
-      passed-fault at e g =
-          let no : allNames fold (wordsAt t b) ≡ false =
-          sym (walk-fault fold law t i j (p .words) (p .walk) e g ∙ ap (allNames fold) (same-words fold law t b i k s))
-          in
+      pub passed-fault : (number at : ℕ) → starts lineEnd (drop j t) ≡ false → isName fold (nameRun fold t j) ≡ false
+          → number ≡ wordFault fold (lineAt t j) → Bodied fold t b room x number at room₁ x₁ row row₁
+      passed-fault number at e g q =
           record {
-            judged = sym (pick-false 0 5 no);
-            ends = λ o. absurd (omega arith);
+            judged = q ∙ walk-fault fold law t i j (p .words) (p .walk) e g ∙ ap (wordsFault fold) (same-words fold law t b i k s);
+            ends = λ o. absurd (word-some fold (lineAt t j) (sym q ∙ o));
             kept = p .kept;
-            joins = λ o. absurd (omega arith);
+            joins = λ o. absurd (word-some fold (lineAt t j) (sym q ∙ o));
           }
 
       -- the line's end
       pub passed-end : starts lineEnd (drop j t) ≡ true → Bodied fold t b room x 0 j room₁ x₁ row row₁
       passed-end e =
-          let yes : allNames fold (wordsAt t b) ≡ true =
-          sym (walk-sound fold law t i j (p .words) (p .walk) e ∙ ap (allNames fold) (same-words fold law t b i k s))
-          in
           record {
-            judged = sym (pick-true 0 5 yes);
+            judged = walk-sound fold law t i j (p .words) (p .walk) e ∙ ap (wordsFault fold) (same-words fold law t b i k s);
             ends = λ o. walk-end fold law t i j (p .words) (p .walk) e ∙ same-end fold law t b i k s;
             kept = p .kept;
             joins =

@@ -7,12 +7,12 @@ use Prim.Native.Nat.{ℕ, suc, _+_, _<_}
 use native.Mathlib.Omega.{arith}
 use lib.Dec.{eqb}
 use lib.ListN.{length, take, drop, length-append, length-drop}
-use lib.Seq.{drop-drop, take-at, length-take-le}
+use lib.Seq.{drop-drop, take-at}
 use borrow.Author.Tests.{eqb-true, eq-eqb}
 use Rattle.sets.proofs.Logic.{clash}
 use Rattle.grammar.specs.Bytes.{Bytes, notEnd, allOf, lineEnd}
 use Rattle.grammar.specs.Lines.{span, run, past, starts}
-use Rattle.grammar.proofs.Spans.{span-le, run-before, past-before, span-end, past-line, all-tail}
+use Rattle.grammar.proofs.Spans.{span-le, run-size, run-before, past-before, span-end, past-line, all-tail}
 use Rattle.grammar.proofs.Words.{starts-before}
 use Rattle.grammar.proofs.Bodies.{split}
 use Rattle.scan.specs.Places.{pastAt}
@@ -23,10 +23,6 @@ pub starts-eq : (x : ℕ) (r : Bytes) → starts x r ≡ true → (u : Bytes) ×
 unfolding starts
 starts-eq x [] e = clash e refl
 starts-eq x (b ∷ u) e = (u, ap (λ (y : ℕ). y ∷ u) (eqb-true b x e))
-
--- how long a run is
-pub run-size : (p : ℕ → Bool) (r : Bytes) → length (run p r) ≡ span p r
-run-size p r = length-take-le (span p r) r (span-le p r)
 
 -- what r begins with
 module _ (r s rest : Bytes) (k : Begins r s rest) where

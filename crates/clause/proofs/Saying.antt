@@ -10,26 +10,27 @@ use lib.ListN.{length, drop}
 use borrow.Author.Tests.{leb-false, lt-leb}
 use Rattle.limits.specs.Book.{names, bodyWords, nameArea}
 use Rattle.sets.specs.Set.{emptySet}
-use Rattle.sets.proofs.Logic.{either, clash, pick-true}
+use Rattle.sets.proofs.Logic.{either, clash}
 use Rattle.words.specs.Row.{pack}
 use Rattle.grammar.specs.Bytes.{Bytes, Folding, colon, lineEnd}
-use Rattle.grammar.specs.Grammar.{Clause, rule, fault}
+use Rattle.grammar.specs.Grammar.{Clause, fault}
 use Rattle.grammar.specs.Lines.{isName, starts}
+use Rattle.grammar.proofs.Sorts.{all-sound}
 use Rattle.scan.specs.Places.{nameRun, nameFolded}
 use Rattle.tables.specs.Numbering.{place, meet, meetAll, places}
 use Rattle.tables.proofs.Numbering.{meet-met, meets-le, meets-keep}
-use Rattle.clause.specs.Line.{LineEnds, formFrom, unword, wordsFolded}
+use Rattle.clause.specs.Line.{LineEnds, formFrom, unword, wordsAt, wordsFolded}
 use Rattle.clause.proofs.Forms.{fault-number, end-body, judged, says}
 use Rattle.clause.specs.Found.{Lexicon, namesAt, Named, InOrder, Meeting, Joining, Onward, Bodied, Ruled, Said}
 use Rattle.clause.proofs.Rows.{kept-same, kept-on, row-same}
 
 -- no rule
-pub said-fault : (fold : ℕ → ℕ) (t : Bytes) (i : ℕ) (x : Lexicon) (at : ℕ) (room : Bool) (head : ℕ) (row : List ℕ) → formFrom fold t i ≡ fault 5
-    → Said fold t i x 5 at room head x row
-said-fault fold t i x at room head row e =
+pub said-fault : (fold : ℕ → ℕ) (t : Bytes) (i : ℕ) (x : Lexicon) (number at : ℕ) (room : Bool) (head : ℕ) (row : List ℕ)
+    → formFrom fold t i ≡ fault number → (number ≡ 0 → ⊥) → Said fold t i x number at room head x row
+said-fault fold t i x number at room head row e some =
     record {
-      judged = fault-number (formFrom fold t i) 5 e;
-      ends = λ o. absurd (omega arith);
+      judged = fault-number (formFrom fold t i) number e;
+      ends = λ o. absurd (some o);
       kept = kept-same nameArea (x .area);
       says = λ c q. let z : _≡_ {A = ℕ} 0 1 = cc in absurd (omega arith);
     }
@@ -101,5 +102,5 @@ module _ (fold : ℕ → ℕ) (law : Folding fold) (t : Bytes) (i mid : ℕ) (k 
             let d = says fold law t i k e mid q s g c p in
             subst (λ (y : Clause). Ruled (namesAt x) y r₂ head x₂ row₂) (d .1)
             (ruled (nameFolded fold t i) r₁ head x x₁ met (wordsFolded fold t (mid + 1)) r₂ x₂ row₁ row₂ clear
-            (b .joins (b .judged ∙ pick-true 0 5 (d .0))));
+            (b .joins (b .judged ∙ all-sound fold (wordsAt t (mid + 1)) (d .0))));
       }

@@ -7,11 +7,11 @@ use Prim.Native.Nat.{ℕ, _<_, _≤_}
 use lib.Dec.{leb}
 use lib.ListN.{length, getD, drop}
 use Rattle.limits.specs.Book.{names, nameBytes, bodyWords, nameArea}
-use Rattle.sets.specs.Set.{Set, pick, union}
+use Rattle.sets.specs.Set.{Set, union}
 use Rattle.words.specs.Row.{pack}
 use Rattle.grammar.specs.Bytes.{Bytes, notEnd, nameByte, allOf}
 use Rattle.grammar.specs.Grammar.{Clause, rule}
-use Rattle.grammar.specs.Lines.{isName, allNames}
+use Rattle.grammar.specs.Lines.{isName, wordsFault}
 use Rattle.scan.specs.Hash.{hashOf}
 use Rattle.scan.specs.Places.{pastAt, nameRun, nameFolded}
 use Rattle.tables.specs.Numbering.{place, meet, meetAll, places}
@@ -80,7 +80,7 @@ pub record Onward (before : Bool) (ns ws : List Bytes) (room : Bool) (x′ : Lex
 -- what is found of the body from place i on: its fault, where a word is no name; else `at` is the line's end, and the row has its names
 pub record Bodied (fold : ℕ → ℕ) (t : Bytes) (i : ℕ) (before : Bool) (x : Lexicon) (fault at : ℕ) (room : Bool) (x′ : Lexicon)
     (row row′ : List ℕ) : Type 0 where
-  pub judged : fault ≡ pick (allNames fold (wordsAt t i)) 0 5
+  pub judged : fault ≡ wordsFault fold (wordsAt t i)
   pub ends : fault ≡ 0 → at ≡ pastAt notEnd t i
   pub kept : Kept nameArea (x .area) (x′ .area)
   pub joins : fault ≡ 0 → Onward before (namesAt x) (wordsFolded fold t i) room x′ row row′

@@ -6,17 +6,18 @@ use limits::Refusal;
 use rows::write::insert;
 use scan::cursor::Cursor;
 use scan::cursor::Word;
+use scan::table::fold;
 ghost use mathlib.Core.Path.{_≡_};
 ghost use mathlib.Core.Bool.{true, false};
 ghost use mathlib.Core.List.{[], _∷_};
-ghost use Prim.Native.Nat.{ℕ};
+ghost use Prim.Native.Nat.{ℕ, _<_};
 ghost use lib.ListN.{length, drop, replicate};
 ghost use Rattle.limits.specs.Book.{bodyWords, nameArea};
 ghost use Rattle.grammar.specs.Bytes.{lineEnd, Bytes, nameByte, letters};
-ghost use Rattle.grammar.specs.Lines.{starts, isName};
+ghost use Rattle.grammar.specs.Lines.{starts, isName, byteFault, wordFault};
 ghost use Rattle.grammar.specs.Letters.{FoldTable};
 ghost use Rattle.scan.specs.Places.{pastAt, nameRun, nameFolded};
-ghost use Rattle.clause.specs.Line.{LineEnds};
+ghost use Rattle.clause.specs.Line.{LineEnds, lineAt};
 ghost use Rattle.clause.specs.Found.{NameHere, Kept, lexiconOf, namesAt, InOrder, Meeting, Onward, Bodied, Said};
 
 // Whether the run of name bytes from place `at` is a name: 1 to 32 bytes of any text that has it there, under any letters.
@@ -28,6 +29,34 @@ fn is_name(at: usize, word: Word) -> bool
         return false;
     }
     end - at <= Book::NAME_BYTES
+}
+
+// The number of a fault at place `at` where no run is overlong: 14 for a barred byte, 5 for the line's end and any other.
+fn byte_fault(text: &[u8], table: &[u8], at: usize) -> usize
+    requires { ⌜ (at < length (now text)) × FoldTable (now table) ⌝ }
+    ensures { λ r. ⌜ r ≡ byteFault (letters (now (table .entry))) (lineAt (now (text .entry)) at) ⌝ }
+{
+    let b = text[at];
+    if b == Cursor::LINE_END || b == Cursor::COLON || b == Cursor::SPACE || b == Cursor::TAB {
+        return Refusal::LINE;
+    }
+    if fold(table, b) != 0 {
+        return Refusal::LINE;
+    }
+    Refusal::BARRED_BYTE
+}
+
+// The number of the fault where the run of name bytes from place `at` is no name: 13 for an overlong run, else by the byte behind it.
+fn word_fault(text: &[u8], table: &[u8], at: usize, word: Word) -> usize
+    requires { ⌜ LineEnds (now text) at × FoldTable (now table) ⌝ }
+    requires { ⌜ word .end ≡ pastAt (nameByte (letters (now table))) (now text) at ⌝ }
+    ensures { λ r. ⌜ r ≡ wordFault (letters (now (table .entry))) (lineAt (now (text .entry)) at) ⌝ }
+{
+    let end = word.end;
+    if end - at > Book::NAME_BYTES {
+        return Refusal::LONG_NAME;
+    }
+    byte_fault(text, table, end)
 }
 
 // A name's number where there is room for it, and how many names there are then.
@@ -247,8 +276,9 @@ fn body(
         let at = here.at;
         let word = here.word(text, table);
         if !is_name(at, word) {
+            let fault = word_fault(text, table, at, word);
             return Found {
-                fault: Refusal::LINE,
+                fault,
                 cursor: here,
                 head,
                 names: done.names,
@@ -278,12 +308,12 @@ fn body(
     }
 }
 
-// A line at fault, found at the cursor.
-fn at_fault(cursor: Cursor, n: usize) -> Found
-    ensures { λ r. ⌜ r ≡ record { fault = 5; cursor = cursor; head = 0; names = n; room = false } ⌝ }
+// A line at fault under that number, found at the cursor.
+fn at_fault(fault: usize, cursor: Cursor, n: usize) -> Found
+    ensures { λ r. ⌜ r ≡ record { fault = fault; cursor = cursor; head = 0; names = n; room = false } ⌝ }
 {
     Found {
-        fault: Refusal::LINE,
+        fault,
         cursor,
         head: 0,
         names: n,
@@ -316,11 +346,13 @@ pub fn rule(
     let at = cursor.at;
     let word = cursor.word(text, table);
     if !is_name(at, word) {
-        return at_fault(cursor, n);
+        let fault = word_fault(text, table, at, word);
+        return at_fault(fault, cursor, n);
     }
     let colon = cursor.moved(word.end).past_blanks(text);
     if !colon.sees(text, Cursor::COLON) {
-        return at_fault(colon, n);
+        let fault = byte_fault(text, table, colon.at);
+        return at_fault(fault, colon, n);
     }
     let met = meet_head(text, table, at, word, spellings, first, prior, n);
     body(

@@ -85,7 +85,7 @@ module _ (fold : ℕ → ℕ) where
     body-words (n ∷ ns) s (front, rest, e, f, m, d, b) = body-more s front n rest ns e f m d (body-words ns rest b)
 
     -- words that are names are parted: what follows a run of name bytes is nothing, or a blank
-    stop-parted : (r : Bytes) → span (nameByte fold) r ≡ zero → allNames fold (wordsOf r) ≡ true → Parted r
+    pub stop-parted : (r : Bytes) → span (nameByte fold) r ≡ zero → allNames fold (wordsOf r) ≡ true → Parted r
     stop-parted [] z a = inl refl
     stop-parted (b ∷ t) z a =
         either (blank b) (λ q. inr (b, t, refl, q))

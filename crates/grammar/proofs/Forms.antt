@@ -1,27 +1,23 @@
--- The form of a line, computed, against the forms that document 01 lists.
+-- The form of a line, computed, against the forms that document 01 lists: a line of a listed form has it, and a line at fault is of none.
 -- Assumes nothing.
-use mathlib.Core.Path.{_≡_, refl, sym, ap, ap₂, _∙_}
+use mathlib.Core.Path.{_≡_, refl, sym, ap, _∙_}
 use mathlib.Core.Logic.{_⊎_, inl, inr}
 use mathlib.Core.Bool.{true, false}
 use mathlib.Core.List.{List, [], _∷_, _++_}
 use Prim.Native.Nat.{ℕ, zero}
 use native.Mathlib.Omega.{arith}
 use lib.Dec.{eqb}
-use lib.ListN.{drop}
 use borrow.Author.Tests.{eqb-true}
-use Rattle.sets.proofs.Logic.{either, clash, not-true}
+use Rattle.sets.proofs.Logic.{clash, not-true}
 use Rattle.grammar.specs.Bytes.{Bytes, Folding, blank, nameByte, colon, hash}
-use Rattle.limits.specs.Cause.{OneOf, faultCauses}
-use Rattle.grammar.specs.Grammar.{Blanks, Name, RuleLine, Remark, spelling, Form, silent, rule, fault, Says}
+use Rattle.grammar.specs.Grammar.{Blanks, Name, RuleLine, Remark, Listed, spelling, silent, rule, fault}
 use Rattle.grammar.specs.Lines.{span, run, past, wordsOf, isName, allNames, starts, formOf}
-use Rattle.grammar.proofs.Spans.{span-nil, span-no, past-none, all-head, all-run, run-past, past-over, past-all}
-use Rattle.grammar.proofs.Words.{test-name, name-blank, name-colon, name-hash, starts-is, form-remark, form-blank, form-headless, form-uncolon}
-use Rattle.grammar.proofs.Words.{form-rule}
-use Rattle.grammar.proofs.Words.{form-body}
+use Rattle.grammar.proofs.Spans.{span-nil, span-no, past-none, all-head, all-run, run-past, past-over}
+use Rattle.grammar.proofs.Words.{test-name, name-blank, name-colon, name-hash, form-remark, form-blank, form-uncolon, form-rule, form-body}
 use Rattle.grammar.proofs.Bodies.{split, blanks-past, name-test, no-name, name-first, name-run, name-past, body-words, words-body}
 
 -- a colon and a remark's first byte are no blanks
-colon-solid : blank colon ≡ false
+pub colon-solid : blank colon ≡ false
 unfolding blank
 colon-solid = refl
 
@@ -40,7 +36,7 @@ starts-cons x b s = refl
 
 module _ (fold : ℕ → ℕ) (law : Folding fold) where
   -- a line that starts with blanks and a name is no remark
-  no-remark : (front h r : Bytes) → Blanks front → Name fold h → starts hash (front ++ (h ++ r)) ≡ false
+  pub no-remark : (front h r : Bytes) → Blanks front → Name fold h → starts hash (front ++ (h ++ r)) ≡ false
   no-remark [] [] r f n = absurd (omega (arith, n .some))
   no-remark [] (b ∷ h) r f n =
       starts-cons hash b (h ++ r)
@@ -51,33 +47,71 @@ module _ (fold : ℕ → ℕ) (law : Folding fold) where
       ∙ not-true (eqb b hash) (λ q. clash (ap blank (sym (eqb-true b hash q)) ∙ all-head blank b front f) hash-solid)
 
   -- blanks and a colon start with no name byte
-  gap-stop : (gap rest : Bytes) → Blanks gap → span (nameByte fold) (gap ++ (colon ∷ rest)) ≡ zero
+  pub gap-stop : (gap rest : Bytes) → Blanks gap → span (nameByte fold) (gap ++ (colon ∷ rest)) ≡ zero
   gap-stop [] rest g = span-no (nameByte fold) colon rest (name-colon fold law)
   gap-stop (b ∷ gap) rest g = span-no (nameByte fold) b (gap ++ (colon ∷ rest)) (name-blank fold law b (all-head blank b gap g))
 
+  -- a line of blanks, a name and what no name byte begins: what its first steps find
+  module _ (f h v : Bytes) (bl : Blanks f) (m : Name fold h) (z : span (nameByte fold) v ≡ zero) where
+    head-first : past blank (f ++ (h ++ v)) ≡ h ++ v
+    head-first = past-over blank f (h ++ v) bl ∙ past-none blank (h ++ v) (name-first fold law h v m)
+
+    head-run : run (nameByte fold) (past blank (f ++ (h ++ v))) ≡ h
+    head-run = ap (run (nameByte fold)) head-first ∙ name-run fold law h v m z
+
+    head-past : past (nameByte fold) (past blank (f ++ (h ++ v))) ≡ v
+    head-past = ap (past (nameByte fold)) head-first ∙ name-past fold law h v m z
+
+    head-name : isName fold (run (nameByte fold) (past blank (f ++ (h ++ v)))) ≡ true
+    head-name = ap (isName fold) head-run ∙ name-test fold h m
+
+    -- it has bytes that are no blanks
+    with-head : {X : Type 0} → ((b : ℕ) (t : Bytes) → past blank (f ++ (h ++ v)) ≡ b ∷ t → X) → X
+    with-head g =
+        split (past blank (f ++ (h ++ v)))
+        (λ e. clash head-name (no-name fold (past blank (f ++ (h ++ v))) (ap (span (nameByte fold)) e ∙ span-nil (nameByte fold)))) g
+
+    -- no colon behind the blanks: at fault
+    pub lacks-colon : starts colon (past blank v) ≡ false → (k : ℕ) × (formOf fold (f ++ (h ++ v)) ≡ fault k)
+    lacks-colon c =
+        with-head
+        (λ b t e. (
+          _,
+          form-uncolon fold (f ++ (h ++ v)) b t (no-remark f h v bl m) e head-name (ap (λ (u : Bytes). starts colon (past blank u)) head-past ∙ c),
+        ))
+
+    module _ (rest : Bytes) (c : past blank v ≡ colon ∷ rest) where
+      at-colon : past blank (past (nameByte fold) (past blank (f ++ (h ++ v)))) ≡ colon ∷ rest
+      at-colon = ap (past blank) head-past ∙ c
+
+      -- words behind the colon that are not all names: at fault
+      pub lacks-names : allNames fold (wordsOf rest) ≡ false → (k : ℕ) × (formOf fold (f ++ (h ++ v)) ≡ fault k)
+      lacks-names a =
+          with-head
+          (λ b t e. (_, form-body fold (f ++ (h ++ v)) b t (no-remark f h v bl m) e head-name rest at-colon a))
+
+      -- names: a rule
+      has-names : allNames fold (wordsOf rest) ≡ true → formOf fold (f ++ (h ++ v)) ≡ rule (spelling fold h (wordsOf rest))
+      has-names a =
+          with-head
+          (λ b t e. form-rule fold (f ++ (h ++ v)) b t (no-remark f h v bl m) e head-name rest at-colon a
+          ∙ ap (λ (x : Bytes). rule (spelling fold x (wordsOf rest))) head-run)
+
+  -- past blanks to a colon
+  pub gap-past : (gap rest : Bytes) → Blanks gap → past blank (gap ++ (colon ∷ rest)) ≡ colon ∷ rest
+  gap-past gap rest g = past-over blank gap (colon ∷ rest) g ∙ past-none blank (colon ∷ rest) (span-no blank colon rest colon-solid)
+
   -- a rule line has the form of that rule
-  rule-form : (s h : Bytes) (ns : List Bytes) → RuleLine fold s h ns → formOf fold s ≡ rule (spelling fold h ns)
+  pub rule-form : (s h : Bytes) (ns : List Bytes) → RuleLine fold s h ns → formOf fold s ≡ rule (spelling fold h ns)
   rule-form s h ns l =
-      let v : Bytes = l .gap ++ (colon ∷ l .rest) in
-      let z : span (nameByte fold) v ≡ zero = gap-stop (l .gap) (l .rest) (l .between) in
-      let u : past blank s ≡ h ++ v =
-      ap (past blank) (l .shape) ∙ past-over blank (l .front) (h ++ v) (l .before) ∙ past-none blank (h ++ v) (name-first fold law h v (l .name)) in
-      let x : run (nameByte fold) (past blank s) ≡ h = ap (run (nameByte fold)) u ∙ name-run fold law h v (l .name) z in
-      let y : past (nameByte fold) (past blank s) ≡ v = ap (past (nameByte fold)) u ∙ name-past fold law h v (l .name) z in
-      let c : past blank (past (nameByte fold) (past blank s)) ≡ colon ∷ l .rest =
-      ap (past blank) y ∙ past-over blank (l .gap) (colon ∷ l .rest) (l .between)
-      ∙ past-none blank (colon ∷ l .rest) (span-no blank colon (l .rest) colon-solid) in
-      let k : isName fold (run (nameByte fold) (past blank s)) ≡ true = ap (isName fold) x ∙ name-test fold h (l .name) in
       let w : (wordsOf (l .rest) ≡ ns) × (allNames fold ns ≡ true) = body-words fold law ns (l .rest) (l .names) in
-      let q : starts hash s ≡ false = ap (starts hash) (l .shape) ∙ no-remark (l .front) h v (l .before) (l .name) in
-      split (past blank s)
-      (λ e. clash k (no-name fold (past blank s) (ap (span (nameByte fold)) e ∙ span-nil (nameByte fold))))
-      (λ b t e.
-      form-rule fold s b t (l .rest) q e k c (ap (allNames fold) (w .0) ∙ w .1)
-      ∙ ap₂ (λ (a : Bytes) (xs : List Bytes). rule (spelling fold a xs)) x (w .0))
+      ap (formOf fold) (l .shape)
+      ∙ has-names (l .front) h (l .gap ++ (colon ∷ l .rest)) (l .before) (l .name) (gap-stop (l .gap) (l .rest) (l .between)) (l .rest)
+      (gap-past (l .gap) (l .rest) (l .between)) (ap (allNames fold) (w .0) ∙ w .1)
+      ∙ ap (λ (xs : List Bytes). rule (spelling fold h xs)) (w .0)
 
   -- the rule line that a head, a colon and words spell
-  line-rule : (s rest : Bytes) → isName fold (run (nameByte fold) (past blank s)) ≡ true
+  pub line-rule : (s rest : Bytes) → isName fold (run (nameByte fold) (past blank s)) ≡ true
       → past blank (past (nameByte fold) (past blank s)) ≡ colon ∷ rest → allNames fold (wordsOf rest) ≡ true
       → RuleLine fold s (run (nameByte fold) (past blank s)) (wordsOf rest)
   line-rule s rest n c a =
@@ -97,91 +131,13 @@ module _ (fold : ℕ → ℕ) (law : Folding fold) where
         names = words-body fold law (wordsOf rest) rest refl a;
       }
 
-  -- what the computed form of a line tells of it
-  abbrev Told : Bytes → Type 0
-  Told s =
-      ((formOf fold s ≡ silent) × (Blanks s ⊎ Remark s))
-      ⊎ (((h : Bytes) × (ns : List Bytes) × (formOf fold s ≡ rule (spelling fold h ns)) × RuleLine fold s h ns) ⊎ (formOf fold s ≡ fault 5))
-
-  -- behind the colon
-  told-body : (s : Bytes) (b : ℕ) (t rest : Bytes) → starts hash s ≡ false → past blank s ≡ b ∷ t
-      → isName fold (run (nameByte fold) (past blank s)) ≡ true → past blank (past (nameByte fold) (past blank s)) ≡ colon ∷ rest → Told s
-  told-body s b t rest q e n c =
-      either (allNames fold (wordsOf rest))
-      (λ a. inr (inl (run (nameByte fold) (past blank s), wordsOf rest, form-rule fold s b t rest q e n c a, line-rule s rest n c a)))
-      (λ a. inr (inr (form-body fold s b t rest q e n c a)))
-
-  -- behind the head
-  told-head : (s : Bytes) (b : ℕ) (t : Bytes) → starts hash s ≡ false → past blank s ≡ b ∷ t
-      → isName fold (run (nameByte fold) (past blank s)) ≡ true → Told s
-  told-head s b t q e n =
-      let w : Bytes = past blank (past (nameByte fold) (past blank s)) in
-      either (starts colon w) (λ c. told-body s b t (drop 1 w) q e n (starts-is colon w c)) (λ c. inr (inr (form-uncolon fold s b t q e c)))
-
-  -- at the first byte that is no blank
-  told-first : (s : Bytes) (b : ℕ) (t : Bytes) → starts hash s ≡ false → past blank s ≡ b ∷ t → Told s
-  told-first s b t q e =
-      either (isName fold (run (nameByte fold) (past blank s))) (λ n. told-head s b t q e n)
-      (λ n. inr (inr (form-headless fold s b t q e n)))
-
-  -- of any line
-  told : (s : Bytes) → Told s
-  told s =
-      either (starts hash s) (λ q. inl (form-remark fold s q, inr (drop 1 s, starts-is hash s q)))
-      (λ q.
-      split (past blank s) (λ e. inl (form-blank fold s e, inl (past-all blank s e)))
-      (λ b t e. told-first s b t q e))
-
   -- a line that says nothing
-  silent-form : (s : Bytes) → Blanks s ⊎ Remark s → formOf fold s ≡ silent
+  pub silent-form : (s : Bytes) → Blanks s ⊎ Remark s → formOf fold s ≡ silent
   silent-form s (inl b) = form-blank fold s (blanks-past s b)
   silent-form s (inr r) = form-remark fold s (remark-starts s r)
 
-  -- complete and unambiguous: the form that a line is of is the computed one
-  pub form-is : (s : Bytes) (f : Form) → Says fold s f → formOf fold s ≡ f
-  unfolding Says
-  form-is s silent d = silent-form s d
-  form-is s (rule c) (h, ns, l, e) = rule-form s h ns l ∙ ap rule (sym e)
-  form-is s (fault k) d = at (told s)
-    where
-      at : Told s → formOf fold s ≡ fault k
-      at (inl (e, inl x)) = absurd (d .formless .not-blank x)
-      at (inl (e, inr x)) = absurd (d .formless .no-remark x)
-      at (inr (inl (h, ns, e, x))) = absurd (d .formless .no-rule h ns x)
-      at (inr (inr e)) = e ∙ ap fault (sym (d .number))
-
-  -- sound: a line is of its computed form
-  pub is-form : (s : Bytes) (f : Form) → formOf fold s ≡ f → Says fold s f
-  unfolding Says
-  is-form s silent e = at (told s)
-    where
-      at : Told s → Blanks s ⊎ Remark s
-      at (inl (q, x)) = x
-      at (inr (inl (h, ns, q, x))) = let o : _≡_ {A = ℕ} 0 1 = cc in absurd (omega arith)
-      at (inr (inr q)) = let o : _≡_ {A = ℕ} 0 1 = cc in absurd (omega arith)
-  is-form s (rule c) e = at (told s)
-    where
-      at : Told s → (h : Bytes) × (ns : List Bytes) × RuleLine fold s h ns × (c ≡ spelling fold h ns)
-      at (inl (q, x)) = let o : _≡_ {A = ℕ} 0 1 = cc in absurd (omega arith)
-      at (inr (inl (h, ns, q, x))) = (h, ns, x, cc)
-      at (inr (inr q)) = let o : _≡_ {A = ℕ} 0 1 = cc in absurd (omega arith)
-  is-form s (fault k) e =
-      record {
-        formless =
-            record {
-              not-blank = λ b. let q = silent-form s (inl b) in let o : _≡_ {A = ℕ} 0 1 = cc in omega arith;
-              no-remark = λ r. let q = silent-form s (inr r) in let o : _≡_ {A = ℕ} 0 1 = cc in omega arith;
-              no-rule = λ h ns l. let q = rule-form s h ns l in let o : _≡_ {A = ℕ} 0 1 = cc in omega arith;
-            };
-        number = at (told s);
-      }
-    where
-      at : Told s → k ≡ 5
-      at (inl (q, x)) = let o : _≡_ {A = ℕ} 0 1 = cc in absurd (omega arith)
-      at (inr (inl (h, ns, q, x))) = let o : _≡_ {A = ℕ} 0 1 = cc in absurd (omega arith)
-      at (inr (inr q)) = cc
-
--- a fault's number is one of the list
-pub fault-cause : (fold : ℕ → ℕ) (s : Bytes) (k : ℕ) → Says fold s (fault k) → OneOf k faultCauses
-unfolding Says OneOf
-fault-cause fold s k d = inl (d .number)
+  -- a line that is computed to be at fault is of no listed form
+  pub formless : (s : Bytes) (k : ℕ) → formOf fold s ≡ fault k → Listed fold s → ⊥
+  formless s k e (inl b) = let q = silent-form s (inl b) in let o : _≡_ {A = ℕ} 0 1 = cc in omega arith
+  formless s k e (inr (inl r)) = let q = silent-form s (inr r) in let o : _≡_ {A = ℕ} 0 1 = cc in omega arith
+  formless s k e (inr (inr (h, ns, l))) = let q = rule-form s h ns l in let o : _≡_ {A = ℕ} 0 1 = cc in omega arith

@@ -1,10 +1,14 @@
 pub mod Spans
 pub mod Words
+pub mod Sorts
 pub mod Folding
 pub mod Letters
 pub mod Fill
 pub mod Cutting
 pub mod Bodies
 pub mod Forms
+pub mod Faults
+pub mod Ways
+pub mod Classes
 pub mod Theorems
 pub mod Samples

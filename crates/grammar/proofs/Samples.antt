@@ -15,7 +15,8 @@ use Rattle.grammar.specs.Bytes.{bytes, blank, from-to, small, ourLetters
 use Rattle.grammar.specs.Letters.{anyReserved, anyUnsettled, tableCause, entriesFrom, ourTable}
 use Rattle.grammar.specs.Fill.{FillOutcome, fillCall}
 use Rattle.grammar.specs.Grammar.{Form, silent, rule, fault}
-use Rattle.grammar.specs.Lines.{span, grown, goesOn, wordsOf, isName, allNames, fromColon, fromHead, starts, formOf}
+use Rattle.grammar.specs.Lines.{span, grown, goesOn, wordsOf, isName, allNames, starts, barred, byteFault, wordFault, wordsFault, fromBody, fromColon}
+use Rattle.grammar.specs.Lines.{fromHead, formOf}
 
 -- the rule of a head and a body in small letters
 abbrev says : String → List String → Form
@@ -27,24 +28,61 @@ table =
     ("", silent)
     ∷ (" \t ", silent)
     ∷ ("# a:b", silent)
-    ∷ (" # a", fault 5)
     ∷ ("P\t: q.1  Q-_\t", says "p" ("q.1" ∷ "q-_" ∷ []))
     ∷ (" a:a a", says "a" ("a" ∷ "a" ∷ []))
     ∷ ("a:", says "a" [])
-    ∷ (":a", fault 5)
-    ∷ ("a", fault 5)
-    ∷ ("a b:", fault 5)
-    ∷ ("a:b:c", fault 5)
-    ∷ ("a:b # c", fault 5)
-    ∷ ("a:b\r", fault 5)
     ∷ ("abcdefghijklmnopqrstuvwxyz.12345:", says "abcdefghijklmnopqrstuvwxyz.12345" [])
-    ∷ ("abcdefghijklmnopqrstuvwxyz.123456:", fault 5)
+    ∷ []
+
+-- 32 name bytes
+abbrev full : String
+full = "abcdefghijklmnopqrstuvwxyz.12345"
+
+-- lines at fault, each with the number of its fault, as document 02 (2.1) has them and docs/DECISIONS.md reads it: barred bytes, other faults,
+-- overlong names; some with a second fault further on
+abbrev faults : List (List ℕ × ℕ)
+faults =
+    (bytes " # a", 14)
+    ∷ (bytes "a:b#", 14)
+    ∷ (bytes "!x", 14)
+    ∷ (bytes "@1", 14)
+    ∷ (0 ∷ [], 14)
+    ∷ (bytes "\r", 14)
+    ∷ (bytes "a\r", 14)
+    ∷ (bytes "a \r", 14)
+    ∷ (bytes full ++ bytes "\r", 14)
+    ∷ (bytes "a:b\r", 14)
+    ∷ (bytes "a:" ++ bytes full ++ bytes "\r", 14)
+    ∷ (bytes "a:b,c", 14)
+    ∷ (bytes "a:b # " ++ bytes full ++ bytes "6", 14)
+    ∷ (bytes ":", 5)
+    ∷ (bytes ":a", 5)
+    ∷ (bytes "a::", 5)
+    ∷ (bytes "a:b:", 5)
+    ∷ (bytes "a b", 5)
+    ∷ (bytes "a b:", 5)
+    ∷ (bytes "a b\r", 5)
+    ∷ (bytes "a " ++ bytes full ++ bytes "6", 5)
+    ∷ (bytes "a", 5)
+    ∷ (bytes "a ", 5)
+    ∷ (bytes full, 5)
+    ∷ (bytes full ++ bytes "6:", 13)
+    ∷ (bytes full ++ bytes "6", 13)
+    ∷ (bytes "a:b " ++ bytes full ++ bytes "6", 13)
+    ∷ (bytes "a:" ++ bytes full ++ bytes "6 c", 13)
+    ∷ (bytes full ++ bytes "6\r", 13)
+    ∷ (bytes "a:" ++ bytes full ++ bytes "6:\r", 13)
     ∷ []
 
 -- the computed forms are those
 pub line-forms : map (λ (r : String × Form). formOf ourLetters (bytes (r .0))) table ≡ map (λ (r : String × Form). r .1) table
-unfolding pick blank small ourLetters nameByte allOf span grown goesOn wordsOf isName allNames fromColon fromHead starts formOf
+unfolding pick blank small ourLetters nameByte allOf span grown goesOn wordsOf isName allNames starts fromBody fromColon fromHead formOf
 line-forms = refl
+
+-- and the numbers
+pub line-faults : map (λ (r : List ℕ × ℕ). formOf ourLetters (r .0)) faults ≡ map (λ (r : List ℕ × ℕ). fault (r .1)) faults
+unfolding pick blank small ourLetters nameByte allOf span grown goesOn wordsOf isName allNames starts barred byteFault wordFault wordsFault fromBody fromColon fromHead formOf
+line-faults = refl
 
 -- document 01's name bytes spelt out, and what each is folded to
 abbrev spelt : List ℕ

@@ -7,7 +7,7 @@ use Prim.Native.Nat.{ℕ, zero, suc, _+_, _≤_, _<_}
 use native.Mathlib.Numerals.{add-one}
 use native.Mathlib.Omega.{arith}
 use lib.ListN.{length, getD, take, drop, take-append-drop, drop-of-length-le}
-use lib.Seq.{drop-cons, take-append-le, drop-append-le, take-append-add, drop-append-add}
+use lib.Seq.{drop-cons, length-take-le, take-append-le, drop-append-le, take-append-add, drop-append-add}
 use Rattle.sets.proofs.Logic.{either, and-left, and-right, and-make, pick-true, pick-false}
 use Rattle.grammar.specs.Bytes.{Bytes, notEnd, allOf, lineEnd}
 use Rattle.grammar.specs.Lines.{span, run, past}
@@ -52,6 +52,10 @@ pub span-le : (p : ℕ → Bool) (s : Bytes) → span p s ≤ length s
 span-le p [] = omega (arith, span-nil p)
 span-le p (b ∷ s) =
     either (p b) (λ e. omega (arith, span-yes p b s e, span-le p s)) (λ e. omega (arith, span-no p b s e))
+
+-- how long a run is
+pub run-size : (p : ℕ → Bool) (s : Bytes) → length (run p s) ≡ span p s
+run-size p s = length-take-le (span p s) s (span-le p s)
 
 -- a scan at place i: the byte there passes
 pub span-on : (p : ℕ → Bool) (t : Bytes) (i : ℕ)

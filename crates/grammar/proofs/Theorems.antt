@@ -10,11 +10,19 @@ use Rattle.grammar.specs.Grammar.{Text, mark, joined, Marked, Ended}
 use Rattle.grammar.specs.Lines.{lines}
 use Rattle.grammar.specs.Claims.{Classified, Cut}
 use Rattle.grammar.proofs.Cutting.{Closed, lines-joined, unbroken-lines, ended-drop, joined-closed, joined-lines}
-use Rattle.grammar.proofs.Forms.{form-is, is-form, fault-cause}
+use Rattle.grammar.proofs.Faults.{one-place}
+use Rattle.grammar.proofs.Classes.{form-is, is-form, unlisted-fault, says-unlisted, says-one, fault-cause}
 
 -- each line is of exactly one form, and it is the computed one
 pub classified : (fold : ℕ → ℕ) → Folding fold → Classified fold
-classified fold law = record { forms = λ s f. (form-is fold law s f, is-form fold law s f); causes = fault-cause fold }
+classified fold law =
+    record {
+      forms = λ s f. (form-is fold law s f, is-form fold law s f);
+      causes = fault-cause fold;
+      faulty = λ s. (unlisted-fault fold law s, λ d. says-unlisted fold law s (d .0) (d .1));
+      one-number = says-one fold law;
+      one-place = one-place fold;
+    }
 
 -- what follows the mark
 body-of : (t rest : Bytes) → t ≡ mark ++ rest → drop (length mark) t ≡ rest

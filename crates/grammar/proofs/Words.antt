@@ -12,7 +12,8 @@ use Rattle.sets.specs.Set.{pick}
 use Rattle.sets.proofs.Logic.{either, clash, not-true, and-left, and-right, or-left, or-right, not-of-false, pick-true, pick-false}
 use Rattle.grammar.specs.Bytes.{Bytes, Folding, blank, nameByte, allOf, colon, hash, lineEnd, reserved}
 use Rattle.grammar.specs.Grammar.{Name, Form, silent, rule, fault, spelling}
-use Rattle.grammar.specs.Lines.{span, run, past, grown, goesOn, wordsOf, isName, allNames, fromColon, fromHead, starts, formOf}
+use Rattle.grammar.specs.Lines.{span, run, past, grown, goesOn, wordsOf, isName, allNames, starts, byteFault, wordFault, wordsFault}
+use Rattle.grammar.specs.Lines.{fromBody, fromColon, fromHead, formOf}
 use Rattle.grammar.proofs.Spans.{span-nil, span-yes, span-no, run-yes, past-yes, past-no, run-none, past-none, all-no, all-append, all-wider, all-run}
 use Rattle.grammar.proofs.Spans.{run-past, span-past-run, head-fails, past-head, run-over, past-over}
 
@@ -26,7 +27,7 @@ unfolding reserved blank
 end-reserved = refl
 
 -- a byte of a word
-abbrev solid : ℕ → Bool
+abbrev pub solid : ℕ → Bool
 solid b = not (blank b)
 
 -- a line end is no blank
@@ -49,11 +50,11 @@ words-grown : (b : ℕ) (s : Bytes) → blank b ≡ false → goesOn s ≡ true 
 unfolding wordsOf
 words-grown b s e g = pick-false _ _ e ∙ pick-true _ _ g
 
-goes-nil : goesOn [] ≡ false
+pub goes-nil : goesOn [] ≡ false
 unfolding goesOn
 goes-nil = refl
 
-goes-blank : (b : ℕ) (s : Bytes) → blank b ≡ true → goesOn (b ∷ s) ≡ false
+pub goes-blank : (b : ℕ) (s : Bytes) → blank b ≡ true → goesOn (b ∷ s) ≡ false
 unfolding goesOn
 goes-blank b s e = pick-true false true e
 
@@ -95,7 +96,7 @@ words-first b (c ∷ s) e =
     either (blank c) (λ q. words-here b c s e q) (λ q. words-on b c s e q (words-first c s q))
 
 -- in any case
-words-run : (b : ℕ) (s : Bytes) → blank b ≡ false → wordsOf (b ∷ s) ≡ run solid (b ∷ s) ∷ wordsOf (past solid (b ∷ s))
+pub words-run : (b : ℕ) (s : Bytes) → blank b ≡ false → wordsOf (b ∷ s) ≡ run solid (b ∷ s) ∷ wordsOf (past solid (b ∷ s))
 words-run b s e =
     words-first b s e ∙ ap (λ (n : ℕ). take n (b ∷ s) ∷ wordsOf (drop n (b ∷ s))) (sym (span-yes solid b s (ap not e)))
 
@@ -185,7 +186,7 @@ module _ (fold : ℕ → ℕ) where
     name-solid b e = not-of-false (blank b) (not-true (blank b) (λ q. clash e (name-blank b q)))
 
     -- the first word starts with the run of name bytes
-    run-solid : (s : Bytes) → run solid s ≡ run (nameByte fold) s ++ run solid (past (nameByte fold) s)
+    pub run-solid : (s : Bytes) → run solid s ≡ run (nameByte fold) s ++ run solid (past (nameByte fold) s)
     run-solid s =
         ap (run solid) (sym (run-past (nameByte fold) s))
         ∙ run-over solid (run (nameByte fold) s) (past (nameByte fold) s)
@@ -198,28 +199,34 @@ module _ (fold : ℕ → ℕ) where
         (all-wider (nameByte fold) solid name-solid (run (nameByte fold) s) (all-run (nameByte fold) s))
 
     -- the first word is that run, where no word goes on behind it
-    words-clean : (b : ℕ) (t : Bytes) → blank b ≡ false → goesOn (past (nameByte fold) (b ∷ t)) ≡ false
+    pub word-clean : (s : Bytes) → goesOn (past (nameByte fold) s) ≡ false → run solid s ≡ run (nameByte fold) s
+    word-clean s g =
+        run-solid s
+        ∙ ap (λ (r : Bytes). run (nameByte fold) s ++ r) (run-none solid (past (nameByte fold) s) (goes-none (past (nameByte fold) s) g))
+        ∙ append-nil (run (nameByte fold) s)
+
+    pub words-clean : (b : ℕ) (t : Bytes) → blank b ≡ false → goesOn (past (nameByte fold) (b ∷ t)) ≡ false
         → wordsOf (b ∷ t) ≡ run (nameByte fold) (b ∷ t) ∷ wordsOf (past (nameByte fold) (b ∷ t))
     words-clean b t e g =
         let v : Bytes = past (nameByte fold) (b ∷ t) in
-        let z : span solid v ≡ zero = goes-none v g in
         words-run b t e
-        ∙ ap₂ (λ (w r : Bytes). w ∷ wordsOf r)
-        (run-solid (b ∷ t) ∙ ap (λ (r : Bytes). run (nameByte fold) (b ∷ t) ++ r) (run-none solid v z) ∙ append-nil (run (nameByte fold) (b ∷ t)))
-        (past-solid (b ∷ t) ∙ past-none solid v z)
+        ∙ ap₂ (λ (w r : Bytes). w ∷ wordsOf r) (word-clean (b ∷ t) g) (past-solid (b ∷ t) ∙ past-none solid v (goes-none v g))
 
     -- and no name, where one does
-    words-broken : (b : ℕ) (t : Bytes) → blank b ≡ false → goesOn (past (nameByte fold) (b ∷ t)) ≡ true → allNames fold (wordsOf (b ∷ t)) ≡ false
-    words-broken b t e g =
-        let v : Bytes = past (nameByte fold) (b ∷ t) in
-        let w : Bytes = run (nameByte fold) (b ∷ t) in
-        ap (allNames fold) (words-run b t e ∙ ap (λ (r : Bytes). r ∷ wordsOf (past solid (b ∷ t))) (run-solid (b ∷ t)))
-        ∙ names-no (w ++ run solid v) (wordsOf (past solid (b ∷ t)))
-        (not-true (isName fold (w ++ run solid v))
+    pub word-broken : (s : Bytes) → goesOn (past (nameByte fold) s) ≡ true → isName fold (run solid s) ≡ false
+    word-broken s g =
+        let v : Bytes = past (nameByte fold) s in
+        let w : Bytes = run (nameByte fold) s in
+        ap (isName fold) (run-solid s)
+        ∙ not-true (isName fold (w ++ run solid v))
         (λ q. clash
         (and-right (allOf (nameByte fold) w) (allOf (nameByte fold) (run solid v))
         (sym (all-append (nameByte fold) w (run solid v)) ∙ name-bytes (w ++ run solid v) q))
-        (names-stray v g (span-past-run (nameByte fold) (b ∷ t)))))
+        (names-stray v g (span-past-run (nameByte fold) s)))
+
+    words-broken : (b : ℕ) (t : Bytes) → blank b ≡ false → goesOn (past (nameByte fold) (b ∷ t)) ≡ true → allNames fold (wordsOf (b ∷ t)) ≡ false
+    words-broken b t e g =
+        ap (allNames fold) (words-run b t e) ∙ names-no (run solid (b ∷ t)) (wordsOf (past solid (b ∷ t))) (word-broken (b ∷ t) g)
 
     -- the three laws at the first byte that is no blank
     fault-at : (b : ℕ) (t : Bytes) → blank b ≡ false → isName fold (run (nameByte fold) (b ∷ t)) ≡ false → allNames fold (wordsOf (b ∷ t)) ≡ false
@@ -276,15 +283,32 @@ starts-is x [] e = clash e refl
 starts-is x (b ∷ s) e = ap (λ (y : ℕ). y ∷ s) (eqb-true b x e)
 
 -- no colon behind a head
-pub uncolon : (fold : ℕ → ℕ) (h u : Bytes) → starts colon u ≡ false → fromColon fold h u ≡ fault 5
-unfolding fromColon starts
-uncolon fold h [] e = refl
-uncolon fold h (b ∷ u) e = pick-false (rule (spelling fold h (wordsOf u))) (fault 5) (rw e)
+pub uncolon : (fold : ℕ → ℕ) (h u : Bytes) → starts colon u ≡ false → fromColon fold h u ≡ fault (byteFault fold u)
+unfolding fromColon
+uncolon fold h u e = pick-false (fromBody fold h (drop 1 u)) (fault (byteFault fold u)) e
+
+-- a colon: the words behind it tell
+pub with-colon : (fold : ℕ → ℕ) (h u : Bytes) → fromColon fold h (colon ∷ u) ≡ fromBody fold h u
+unfolding fromColon starts pick
+with-colon fold h u = refl
+
+module _ (fold : ℕ → ℕ) (h u : Bytes) where
+  -- all of them names: a rule
+  pub all-named : allNames fold (wordsOf u) ≡ true → fromBody fold h u ≡ rule (spelling fold h (wordsOf u))
+  unfolding fromBody
+  all-named e = pick-true _ (fault (wordsFault fold (wordsOf u))) e
+
+  -- not all: the first that is none is the fault
+  pub not-named : allNames fold (wordsOf u) ≡ false → fromBody fold h u ≡ fault (wordsFault fold (wordsOf u))
+  unfolding fromBody
+  not-named e = pick-false _ (fault (wordsFault fold (wordsOf u))) e
 
 module _ (fold : ℕ → ℕ) (s : Bytes) where
   -- a line with bytes that are no blanks, by its head
   abbrev headed : Bytes → Form
-  headed u = pick (isName fold (run (nameByte fold) u)) (fromColon fold (run (nameByte fold) u) (past blank (past (nameByte fold) u))) (fault 5)
+  headed u =
+      pick (isName fold (run (nameByte fold) u)) (fromColon fold (run (nameByte fold) u) (past blank (past (nameByte fold) u)))
+      (fault (wordFault fold u))
 
   form-head : (b : ℕ) (t : Bytes) → starts hash s ≡ false → past blank s ≡ b ∷ t → formOf fold s ≡ headed (past blank s)
   unfolding formOf fromHead
@@ -304,35 +328,31 @@ module _ (fold : ℕ → ℕ) (s : Bytes) where
 
   -- no name at the head
   pub form-headless : (b : ℕ) (t : Bytes) → starts hash s ≡ false → past blank s ≡ b ∷ t
-      → isName fold (run (nameByte fold) (past blank s)) ≡ false → formOf fold s ≡ fault 5
-  form-headless b t q e n = form-head b t q e ∙ pick-false _ (fault 5) n
+      → isName fold (run (nameByte fold) (past blank s)) ≡ false → formOf fold s ≡ fault (wordFault fold (past blank s))
+  form-headless b t q e n = form-head b t q e ∙ pick-false _ (fault (wordFault fold (past blank s))) n
 
-  -- no colon behind the head
-  pub form-uncolon : (b : ℕ) (t : Bytes) → starts hash s ≡ false → past blank s ≡ b ∷ t
-      → starts colon (past blank (past (nameByte fold) (past blank s))) ≡ false → formOf fold s ≡ fault 5
-  form-uncolon b t q e c =
-      form-head b t q e
-      ∙ either (isName fold (run (nameByte fold) (past blank s)))
-      (λ n. pick-true _ (fault 5) n ∙ uncolon fold (run (nameByte fold) (past blank s)) (past blank (past (nameByte fold) (past blank s))) c)
-      (λ n. pick-false _ (fault 5) n)
+  module _ (b : ℕ) (t : Bytes) (q : starts hash s ≡ false) (e : past blank s ≡ b ∷ t) (n : isName fold (run (nameByte fold) (past blank s)) ≡ true) where
+    -- a name there: by what stands behind it and its blanks
+    form-named : formOf fold s ≡ fromColon fold (run (nameByte fold) (past blank s)) (past blank (past (nameByte fold) (past blank s)))
+    form-named = form-head b t q e ∙ pick-true _ (fault (wordFault fold (past blank s))) n
 
-  -- a head and a colon: the words of the body tell
-  pub form-colon : (b : ℕ) (t rest : Bytes) → starts hash s ≡ false → past blank s ≡ b ∷ t
-      → isName fold (run (nameByte fold) (past blank s)) ≡ true → past blank (past (nameByte fold) (past blank s)) ≡ colon ∷ rest
-      → formOf fold s
-      ≡ pick (allNames fold (wordsOf rest)) (rule (spelling fold (run (nameByte fold) (past blank s)) (wordsOf rest))) (fault 5)
-  unfolding fromColon
-  form-colon b t rest q e n c =
-      form-head b t q e ∙ pick-true _ (fault 5) n ∙ ap (fromColon fold (run (nameByte fold) (past blank s))) c
+    -- no colon
+    pub form-uncolon : starts colon (past blank (past (nameByte fold) (past blank s))) ≡ false
+        → formOf fold s ≡ fault (byteFault fold (past blank (past (nameByte fold) (past blank s))))
+    form-uncolon c =
+        form-named ∙ uncolon fold (run (nameByte fold) (past blank s)) (past blank (past (nameByte fold) (past blank s))) c
 
-  -- all of them names: a rule
-  pub form-rule : (b : ℕ) (t rest : Bytes) → starts hash s ≡ false → past blank s ≡ b ∷ t
-      → isName fold (run (nameByte fold) (past blank s)) ≡ true → past blank (past (nameByte fold) (past blank s)) ≡ colon ∷ rest
-      → allNames fold (wordsOf rest) ≡ true → formOf fold s ≡ rule (spelling fold (run (nameByte fold) (past blank s)) (wordsOf rest))
-  form-rule b t rest q e n c w = form-colon b t rest q e n c ∙ pick-true _ (fault 5) w
+    module _ (rest : Bytes) (c : past blank (past (nameByte fold) (past blank s)) ≡ colon ∷ rest) where
+      -- a colon: the words of the body tell
+      form-colon : formOf fold s ≡ fromBody fold (run (nameByte fold) (past blank s)) rest
+      form-colon =
+          form-named ∙ ap (fromColon fold (run (nameByte fold) (past blank s))) c
+          ∙ with-colon fold (run (nameByte fold) (past blank s)) rest
 
-  -- not all: a fault
-  pub form-body : (b : ℕ) (t rest : Bytes) → starts hash s ≡ false → past blank s ≡ b ∷ t
-      → isName fold (run (nameByte fold) (past blank s)) ≡ true → past blank (past (nameByte fold) (past blank s)) ≡ colon ∷ rest
-      → allNames fold (wordsOf rest) ≡ false → formOf fold s ≡ fault 5
-  form-body b t rest q e n c w = form-colon b t rest q e n c ∙ pick-false _ (fault 5) w
+      -- all of them names: a rule
+      pub form-rule : allNames fold (wordsOf rest) ≡ true → formOf fold s ≡ rule (spelling fold (run (nameByte fold) (past blank s)) (wordsOf rest))
+      form-rule w = form-colon ∙ all-named fold (run (nameByte fold) (past blank s)) rest w
+
+      -- not all: a fault
+      pub form-body : allNames fold (wordsOf rest) ≡ false → formOf fold s ≡ fault (wordsFault fold (wordsOf rest))
+      form-body w = form-colon ∙ not-named fold (run (nameByte fold) (past blank s)) rest w

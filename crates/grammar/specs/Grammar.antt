@@ -1,7 +1,7 @@
--- "Book text" of document 01, sentence by sentence, apart from any way of reading it.
+-- "Book text" of document 01 and the faults of a line of document 02, 2.1, sentence by sentence, apart from any way of reading it.
 -- Assumes nothing.
 use mathlib.Core.Path.{_≡_}
-use mathlib.Core.Bool.{true}
+use mathlib.Core.Bool.{true, false}
 use mathlib.Core.Logic.{_⊎_}
 use mathlib.Core.List.{List, [], _∷_, _++_, map}
 use Prim.Native.Nat.{ℕ, _≤_}
@@ -44,6 +44,53 @@ pub record RuleLine (fold : ℕ → ℕ) (s head : Bytes) (body : List Bytes) : 
 abbrev pub Remark : Bytes → Type 0
 Remark s = (rest : Bytes) × (s ≡ hash ∷ rest)
 
+-- s is of a listed form
+abbrev pub Listed : (ℕ → ℕ) → Bytes → Type 0
+Listed fold s = Blanks s ⊎ (Remark s ⊎ ((h : Bytes) × (ns : List Bytes) × RuleLine fold s h ns))
+
+-- a listed form is possible after p: some continuation of p is of one
+abbrev pub Viable : (ℕ → ℕ) → Bytes → Type 0
+Viable fold p = (more : Bytes) × Listed fold (p ++ more)
+
+-- the fault of s stands at its byte b, after p: "the first byte that leaves no listed form possible"
+pub record FaultAt (fold : ℕ → ℕ) (s p : Bytes) (b : ℕ) : Type 0 where
+  pub rest : Bytes
+  pub shape : s ≡ p ++ (b ∷ rest)
+  pub viable : Viable fold p
+  pub ends : Viable fold (p ++ (b ∷ [])) → ⊥
+
+-- "a byte that is neither name byte, blank nor `:`"
+pub record BarredByte (fold : ℕ → ℕ) (b : ℕ) : Type 0 where
+  pub no-name : nameByte fold b ≡ false
+  pub no-blank : blank b ≡ false
+  pub no-colon : b ≡ colon → ⊥
+
+-- empty, or its last byte is no name byte: so a run of name bytes after it begins there
+abbrev pub Unnamed : (ℕ → ℕ) → Bytes → Type 0
+Unnamed fold s = (s ≡ []) ⊎ ((t : Bytes) × (c : ℕ) × (s ≡ t ++ (c ∷ [])) × (nameByte fold c ≡ false))
+
+-- the byte b, after p, is the 33rd of a run of name bytes: "a run of more than 32 name bytes", whose fault is "at its 33rd byte"
+pub record LongName (fold : ℕ → ℕ) (p : Bytes) (b : ℕ) : Type 0 where
+  pub before : Bytes
+  pub run : Bytes
+  pub shape : p ≡ before ++ run
+  pub begins : Unnamed fold before
+  pub size : length run ≡ nameBytes
+  pub bytes : allOf (nameByte fold) run ≡ true
+  pub more : nameByte fold b ≡ true
+
+-- the number of a fault at the byte b after p: 14 for a barred byte, 13 for an overlong name, "5 remains for the rest"
+abbrev pub FaultNumber : (ℕ → ℕ) → Bytes → ℕ → ℕ → Type 0
+FaultNumber fold p b k =
+    ((k ≡ 14) × BarredByte fold b)
+    ⊎ (((k ≡ 13) × LongName fold p b) ⊎ ((k ≡ 5) × (BarredByte fold b → ⊥) × (LongName fold p b → ⊥)))
+
+-- the line s is at fault under the number k: by the byte at which its fault stands; "one known only by the line's end comes last", and is 5
+abbrev pub Fault : (ℕ → ℕ) → Bytes → ℕ → Type 0
+Fault fold s k =
+    ((p : Bytes) × (b : ℕ) × FaultAt fold s p b × FaultNumber fold p b k)
+    ⊎ ((k ≡ 5) × Viable fold s × (Listed fold s → ⊥))
+
 -- a rule as the book has it: its names in folded bytes, the body as the names stand in the line
 pub record Clause : Type 0 where
   pub head : Bytes
@@ -58,17 +105,6 @@ pub data Form : Type 0 where
   silent : Form
   rule : Clause → Form
   fault : ℕ → Form
-
--- a line of no listed form
-pub record Formless (fold : ℕ → ℕ) (s : Bytes) : Type 0 where
-  pub not-blank : Blanks s → ⊥
-  pub no-remark : Remark s → ⊥
-  pub no-rule : (h : Bytes) (ns : List Bytes) → RuleLine fold s h ns → ⊥
-
--- the line s is at fault under the number k: 5 for every line of no listed form
-pub record Fault (fold : ℕ → ℕ) (s : Bytes) (k : ℕ) : Type 0 where
-  pub formless : Formless fold s
-  pub number : k ≡ 5
 
 -- the line s is of that form
 unfoldable pub Says : (ℕ → ℕ) → Bytes → Form → Type 0

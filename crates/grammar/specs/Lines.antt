@@ -1,9 +1,9 @@
 -- Lines and their forms, computed.
 -- Assumes nothing.
-use mathlib.Core.Bool.{Bool, true, false, _&&_}
+use mathlib.Core.Bool.{Bool, true, false, not, _&&_, _||_}
 use mathlib.Core.List.{List, [], _∷_}
 use Prim.Native.Nat.{ℕ, zero, suc}
-use lib.Dec.{eqb, leb}
+use lib.Dec.{eqb, leb, ltb}
 use lib.ListN.{length, take, drop}
 use Rattle.limits.specs.Book.{nameBytes}
 use Rattle.sets.specs.Set.{pick}
@@ -51,10 +51,37 @@ unfoldable pub allNames : (ℕ → ℕ) → List Bytes → Bool
 allNames fold [] = true
 allNames fold (w ∷ ws) = isName fold w && allNames fold ws
 
+-- whether the first byte is b
+unfoldable pub starts : ℕ → Bytes → Bool
+starts b [] = false
+starts b (x ∷ s) = eqb x b
+
+-- the test for BarredByte
+unfoldable pub barred : (ℕ → ℕ) → ℕ → Bool
+barred fold b = not (nameByte fold b || (blank b || eqb b colon))
+
+-- the number of a fault at the first byte of s, where no run is overlong, or at the line's end
+unfoldable pub byteFault : (ℕ → ℕ) → Bytes → ℕ
+byteFault fold [] = 5
+byteFault fold (b ∷ s) = pick (barred fold b) 14 5
+
+-- the number of the fault of s, which is no name: 13 where the run of name bytes at its front is overlong, else by the byte after that run
+unfoldable pub wordFault : (ℕ → ℕ) → Bytes → ℕ
+wordFault fold s = pick (ltb nameBytes (span (nameByte fold) s)) 13 (byteFault fold (past (nameByte fold) s))
+
+-- that of the first word that is no name, 0 for none
+unfoldable pub wordsFault : (ℕ → ℕ) → List Bytes → ℕ
+wordsFault fold [] = 0
+wordsFault fold (w ∷ ws) = pick (isName fold w) (wordsFault fold ws) (wordFault fold w)
+
+-- a line whose head is h, behind the colon
+unfoldable pub fromBody : (ℕ → ℕ) → Bytes → Bytes → Form
+fromBody fold h s =
+    pick (allNames fold (wordsOf s)) (rule (spelling fold h (wordsOf s))) (fault (wordsFault fold (wordsOf s)))
+
 -- a line whose head is h, from the colon on
 unfoldable pub fromColon : (ℕ → ℕ) → Bytes → Bytes → Form
-fromColon fold h [] = fault 5
-fromColon fold h (b ∷ rest) = pick (eqb b colon && allNames fold (wordsOf rest)) (rule (spelling fold h (wordsOf rest))) (fault 5)
+fromColon fold h s = pick (starts colon s) (fromBody fold h (drop 1 s)) (fault (byteFault fold s))
 
 -- a line from its first byte that is no blank
 unfoldable pub fromHead : (ℕ → ℕ) → Bytes → Form
@@ -62,12 +89,7 @@ fromHead fold [] = silent
 fromHead fold (b ∷ s) =
     pick (isName fold (run (nameByte fold) (b ∷ s)))
     (fromColon fold (run (nameByte fold) (b ∷ s)) (past blank (past (nameByte fold) (b ∷ s))))
-    (fault 5)
-
--- whether the first byte is b
-unfoldable pub starts : ℕ → Bytes → Bool
-starts b [] = false
-starts b (x ∷ s) = eqb x b
+    (fault (wordFault fold (b ∷ s)))
 
 -- the form of a line
 unfoldable pub formOf : (ℕ → ℕ) → Bytes → Form

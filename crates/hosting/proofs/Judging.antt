@@ -19,6 +19,7 @@ use Rattle.grammar.proofs.Letters.{fold-reserved, fold-unsettled}
 use Rattle.solving.specs.Solve.{SolveAreas, SolveOutcome, solveCall}
 use Rattle.solving.specs.SolveClaims.{SolveLong, SolveReady, InRange, SolveJudges}
 use Rattle.solving.proofs.Judging.{solve-judges}
+use Rattle.solving.proofs.Theorems.{books-solved}
 use Rattle.solving.proofs.Past.{solve-past}
 use Rattle.hosting.specs.List.{ownAreas, seen, listCall}
 use Rattle.hosting.specs.Call.{refusalUnit, asOne, called, hostCall}
@@ -116,6 +117,15 @@ module _ (table : List ℕ) (passes : FoldTable table) (t : Bytes) (k : ℕ) (ol
   back-line : asOne (r .answer .number) (r .answer .line) % refusalUnit ≡ r .answer .line
   back-line = line-back (r .answer .number) (r .answer .line) (omega (arith, ranges .1))
 
+  -- a number with its line, exactly where A holds in range: the number returned is both in one, exactly there
+  one-lined : {A : Type 0} (q line : ℕ) → line < refusalUnit
+      → ((r .answer .number ≡ q) × (r .answer .line ≡ line)) ↔ (InRange table t k own × A)
+      → (asOne (r .answer .number) (r .answer .line) ≡ asOne q line) ↔ (HostRange t k old × A)
+  one-lined q line l (to, from) = (
+    λ e. let p = to (same-one (r .answer .number) (r .answer .line) q line (omega (arith, ranges .1)) l e) in (to-host (p .0), p .1),
+    λ p. let s = from (from-host (p .0), p .1) in ap₂ asOne (s .0) (s .1),
+  )
+
   -- what is claimed of the call, by the solver's outcome
   seen-judges : CallJudges fold t k old (called (seen r))
   unfolding without
@@ -124,15 +134,8 @@ module _ (table : List ℕ) (passes : FoldTable table) (t : Bytes) (k : ℕ) (ol
     short = one-way 1 (Iff·trans (judges .letters-judged .short) short-way) (no-line 1 refl);
     long-text = one-way 2 (Iff·trans (judges .long-text) (λ p. (p .0 .0 .listing, p .1), λ p. (ready (p .0), p .1))) (no-line 2 refl);
     over-folds = one-way 9 (Iff·trans (judges .over-folds) (λ p. (p .0 .0 .listing, p .1, p .2), λ p. (ready (p .0), p .1, p .2))) (no-line 9 refl);
-    text = λ q line m l. (
-      λ e.
-          let s = same-one (r .answer .number) (r .answer .line) q line (omega (arith, ranges .1)) l e in
-          let p = judges .text q line m .0 s in
-          (to-host (p .0), p .1),
-      λ p.
-          let s = judges .text q line m .1 (from-host (p .0), p .1) in
-          ap₂ asOne (s .0) (s .1),
-    );
+    text = λ q line m l. one-lined q line l (judges .text q line m);
+    faults = λ q line m l. one-lined q line l (books-solved table .faults t k own q line m);
     over-atoms = one-way 8 (Iff·trans (judges .over-atoms) (λ p. (to-host (p .0), p .1), λ p. (from-host (p .0), p .1))) (no-line 8 refl);
     no-other =
         subst (λ (n : ℕ). (n ≡ 0) ⊎ OneOf n hostCauses) (sym back-number)

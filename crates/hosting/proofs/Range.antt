@@ -17,8 +17,9 @@ use Rattle.program.specs.Standard.{standard}
 use Rattle.grammar.specs.Bytes.{Bytes, Folding, letters, lineEnd, colon, blank}
 use Rattle.grammar.specs.Grammar.{Clause, RuleLine, Says, mark, joined}
 use Rattle.grammar.proofs.Spans.{all-nil}
+use Rattle.grammar.proofs.Faults.{fault-unlisted}
 use Rattle.tables.specs.Numbering.{programOf}
-use Rattle.tables.specs.Reading.{Reading, read, refused, bookOf, Barred, Refusal}
+use Rattle.tables.specs.Reading.{Reading, read, refused, bookOf, LineRefused, Refusal}
 use Rattle.tables.proofs.Theorems.{judged}
 use Rattle.solving.specs.Solve.{SolveAreas, SolveOutcome, answerOf, solveRead, solveCall}
 use Rattle.solving.proofs.Judging.{solve-cause, ready-or, solve-long-text, solve-over-folds, solve-in-range}
@@ -34,11 +35,11 @@ joined-here [] s rest = omega (arith, length-append s (lineEnd ∷ joined rest))
 joined-here (x ∷ ls) s rest = omega (arith, length-append x (lineEnd ∷ joined (ls ++ (s ∷ rest))), joined-here ls s rest)
 
 -- a line that is refused has a byte of its own
-barred-some : (fold : ℕ → ℕ) (cs : List Clause) (s : Bytes) (q : ℕ) → Barred fold cs s q → 1 ≤ length s
-unfolding Barred Says
-barred-some fold cs [] q (inl x) = absurd (x .formless .not-blank (all-nil blank))
-barred-some fold cs (b ∷ s) q (inl x) = omega arith
-barred-some fold cs s q (inr x) =
+refused-some : (fold : ℕ → ℕ) (cs : List Clause) (s : Bytes) (q : ℕ) → LineRefused fold cs s q → 1 ≤ length s
+unfolding LineRefused Says
+refused-some fold cs [] q (inl x) = absurd (fault-unlisted fold [] q x (inl (all-nil blank)))
+refused-some fold cs (b ∷ s) q (inl x) = omega arith
+refused-some fold cs s q (inr x) =
     let w : RuleLine fold s (x .1 .0) (x .1 .1) = x .1 .2 in
     let h : Bytes = x .1 .0 in
     let end : Bytes = colon ∷ w .rest in
@@ -63,7 +64,7 @@ refused-line fold t q line (inr (inr x)) =
       ap length (x .text .shape),
       length-append mark (joined ls),
       joined-here (x .above) (x .here) (x .below),
-      barred-some fold (x .cs) (x .here) q (x .barred),
+      refused-some fold (x .cs) (x .here) q (x .refused-for),
     )
 
 module _ (table : List ℕ) (t : Bytes) (k : ℕ) (old : SolveAreas) where

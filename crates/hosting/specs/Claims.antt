@@ -9,13 +9,13 @@ use mathlib.Core.List.{List, [], _∷_, _++_}
 use Prim.Native.Nat.{ℕ, _-_, _/_, _%_, _≤_, _<_}
 use lib.ListN.{length, getD, take, drop}
 use Rattle.limits.specs.Book.{textBytes, atoms, folds, listingBytes}
-use Rattle.limits.specs.Cause.{OneOf, lineCauses, textCauses, hostCauses}
+use Rattle.limits.specs.Cause.{OneOf, faultCauses, lineCauses, textCauses, hostCauses}
 use Rattle.program.specs.System.{folded, roundsOf}
 use Rattle.program.specs.Standard.{standard}
 use Rattle.grammar.specs.Bytes.{Bytes, allOf, Among, letters}
 use Rattle.grammar.specs.Grammar.{Clause, joined, Unbroken}
 use Rattle.tables.specs.Numbering.{place, namesOf, programOf}
-use Rattle.tables.specs.Reading.{Book, Refusal}
+use Rattle.tables.specs.Reading.{Book, FirstFault, Refusal}
 use Rattle.areas.specs.Area.{filled}
 use Rattle.tables.specs.Areas.{nonzero}
 use Rattle.solving.specs.Listing.{headLine}
@@ -33,7 +33,7 @@ HostRange t k old = (listingBytes ≤ length old) × (length t ≤ textBytes) ×
 abbrev pub highestLine : ℕ
 highestLine = textBytes - 9
 
--- Demand 1 for the call: each number exactly where document 01 gives it. r is what the call returns and leaves.
+-- Demand 1 for the call: each number exactly where documents 01 and 02 give it. r is what the call returns and leaves.
 pub record CallJudges (fold : ℕ → ℕ) (t : Bytes) (k : ℕ) (old : Bytes) (r : CallOutcome) : Type 0 where
   pub accepts : (r .returned ≡ 0) ↔ (HostRange t k old × ((cs : List Clause) × Book fold t cs × (standard (programOf cs) .atoms ≤ atoms)))
   pub short : (r .returned ≡ asOne 1 0) ↔ (length old < listingBytes)
@@ -41,6 +41,8 @@ pub record CallJudges (fold : ℕ → ℕ) (t : Bytes) (k : ℕ) (old : Bytes) (
   pub over-folds : (r .returned ≡ asOne 9 0) ↔ ((listingBytes ≤ length old) × (length t ≤ textBytes) × (folds < k))
   -- those of a text with their line, as the grammar says
   pub text : (q line : ℕ) → OneOf q textCauses → line < refusalUnit → (r .returned ≡ asOne q line) ↔ (HostRange t k old × Refusal fold t q line)
+  -- 5, 13 and 14: each exactly where the first line that is refused has that fault
+  pub faults : (q line : ℕ) → OneOf q faultCauses → line < refusalUnit → (r .returned ≡ asOne q line) ↔ (HostRange t k old × FirstFault fold t q line)
   pub over-atoms : (r .returned ≡ asOne 8 0) ↔ (HostRange t k old × ((cs : List Clause) × Book fold t cs × (atoms < standard (programOf cs) .atoms)))
   -- 0 and these are all its numbers: 10, 11, 12, 20 and 21 cannot occur
   pub no-other : (r .returned / refusalUnit ≡ 0) ⊎ OneOf (r .returned / refusalUnit) hostCauses

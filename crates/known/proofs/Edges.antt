@@ -11,7 +11,8 @@ use Rattle.sets.specs.Set.{pick, count}
 use Rattle.program.specs.Standard.{ways, several, helper}
 use Rattle.grammar.specs.Bytes.{Bytes, blank, small, ourLetters, nameByte, allOf}
 use Rattle.grammar.specs.Letters.{ourTable}
-use Rattle.grammar.specs.Lines.{span, grown, lines, goesOn, wordsOf, isName, allNames, fromColon, fromHead, starts, formOf}
+use Rattle.grammar.specs.Lines.{span, grown, lines, goesOn, wordsOf, isName, allNames, starts, barred, byteFault, wordFault, wordsFault, fromBody}
+use Rattle.grammar.specs.Lines.{fromColon, fromHead, formOf}
 use Rattle.tables.specs.Numbering.{sameBytes, place, meet, meetAll, standing, namesOf, places, numbered, programOf}
 use Rattle.tables.specs.Reading.{lineCause, taken, readLines, bookOf}
 use Rattle.solving.specs.Solve.{SolveAnswer, SolveOutcome, answerOf, solveRead, solveText, solveCall}
@@ -26,7 +27,7 @@ numbered-as a = (a .number, a .line)
 
 -- computed, with nothing judged but text and folds; held names, rounds, c and h are not computed
 computed : map (λ (x : Edge). numbered-as (solveText ourLetters (x .text) folds oldAreas .answer)) edges ≡ map (λ (x : Edge). (x .number, x .line)) edges
-unfolding pick count ways several helper blank small ourLetters nameByte allOf span grown lines goesOn wordsOf isName allNames fromColon fromHead starts formOf sameBytes place meet meetAll standing namesOf places numbered programOf lineCause taken readLines bookOf answerOf solveRead solveText ruleTimes namesOn
+unfolding pick count ways several helper blank small ourLetters nameByte allOf span grown lines goesOn wordsOf isName allNames starts barred byteFault wordFault wordsFault fromBody fromColon fromHead formOf sameBytes place meet meetAll standing namesOf places numbered programOf lineCause taken readLines bookOf answerOf solveRead solveText ruleTimes namesOn
 computed = refl
 
 -- they get these

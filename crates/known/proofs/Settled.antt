@@ -10,7 +10,7 @@ use Rattle.program.specs.System.{anyHead, allStep, round, unfoldOnce, rowsAfter
 use Rattle.program.specs.Standard.{ways, several, helper, home, hasBody, countedAtoms, allRow, anyRow, startSet}
 use Rattle.grammar.specs.Bytes.{blank, small, ourLetters, nameByte, allOf}
 use Rattle.grammar.specs.Grammar.{joined}
-use Rattle.grammar.specs.Lines.{span, grown, lines, goesOn, wordsOf, isName, allNames, fromColon, fromHead, starts, formOf}
+use Rattle.grammar.specs.Lines.{span, grown, lines, goesOn, wordsOf, isName, allNames, starts, fromBody, fromColon, fromHead, formOf}
 use Rattle.tables.specs.Numbering.{sameBytes, place, meet, meetAll, standing, namesOf, places, numbered, programOf}
 use Rattle.tables.specs.Reading.{lineCause, taken, readLines, bookOf, reading}
 use Rattle.tables.specs.Areas.{padded, nameRows, headRows, bodyRows, filledWith, tablesOf, refusal, outcome, nonzero, nameAt, lookUp, ruleAt, rulesFrom}
@@ -27,7 +27,7 @@ use Rattle.known.proofs.Old.{old-long}
 
 -- computed, with nothing judged but the text
 computed : allAgree (unjudgedCalls oldAreas) (oldAreas .model) books ≡ true
-unfolding pick every exists count within meets same image members after roundsIn rounds reached bit row binary pack consequence plainRounds plainHeld anyHead allStep round unfoldOnce rowsAfter roundsOf heldBy c h ways several helper home hasBody countedAtoms allRow anyRow startSet blank small ourLetters nameByte allOf joined span grown lines goesOn wordsOf isName allNames fromColon fromHead starts formOf sameBytes place meet meetAll standing namesOf places numbered programOf lineCause taken readLines bookOf reading filled padded nameRows headRows bodyRows filledWith tablesOf refusal outcome nonzero nameAt lookUp ruleAt rulesFrom begun packed withModel plainOf figures decimal headLine heldNames listingLines listed answerOf solvedAreas solveRead solveText sameNames heldSpelt listingIn headThen holds plainHolds says saysAll answers answersEach answersAll answersPlain agrees allAgree
+unfolding pick every exists count within meets same image members after roundsIn rounds reached bit row binary pack consequence plainRounds plainHeld anyHead allStep round unfoldOnce rowsAfter roundsOf heldBy c h ways several helper home hasBody countedAtoms allRow anyRow startSet blank small ourLetters nameByte allOf joined span grown lines goesOn wordsOf isName allNames starts fromBody fromColon fromHead formOf sameBytes place meet meetAll standing namesOf places numbered programOf lineCause taken readLines bookOf reading filled padded nameRows headRows bodyRows filledWith tablesOf refusal outcome nonzero nameAt lookUp ruleAt rulesFrom begun packed withModel plainOf figures decimal headLine heldNames listingLines listed answerOf solvedAreas solveRead solveText sameNames heldSpelt listingIn headThen holds plainHolds says saysAll answers answersEach answersAll answersPlain agrees allAgree
 computed = refl
 
 -- and so with its call

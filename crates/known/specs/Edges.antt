@@ -49,10 +49,14 @@ edges =
     -- the empty text, and a last byte that ends no line
     ∷ gets [] 3 0
     ∷ afterMark (bytes "a:b") 4 0
-    -- a name of 32 bytes, and of 33; a carriage return
+    -- a line without a colon; a name of 32 bytes, and of 33; a carriage return in a rule
+    ∷ afterMark (bytes "a:b\nb\n") 5 3
     ∷ afterMark (longName 32) 0 0
-    ∷ afterMark (longName 33) 5 2
-    ∷ afterMark (bytes "a:b\r\n") 5 2
+    ∷ afterMark (longName 33) 13 2
+    ∷ afterMark (bytes "a:b\r\n") 14 2
+    -- the same in a line that would be the 257th rule: a fault comes first
+    ∷ afterMark (ruleTimes 256 ++ longName 33) 13 258
+    ∷ afterMark (ruleTimes 256 ++ bytes "a:b\r\n") 14 258
     -- a 129th name; a 257th rule, whose names are not judged any more
     ∷ afterMark (ruleTimes 2 ++ wide 129) 6 4
     ∷ afterMark (ruleTimes 256 ++ wide 129) 7 258

@@ -111,6 +111,6 @@ solve-left k m kept line over =
     (one-split k (solveKeptCauses ++ lineCauses) atomCauses m)
 
 -- each number of document 01's table, and each of document 02 so far, is the solver's, the writer's or that of the rounds
-pub numbers-listed : inside (1 ∷ 2 ∷ 3 ∷ 4 ∷ 5 ∷ 6 ∷ 7 ∷ 8 ∷ 9 ∷ 10 ∷ 11 ∷ 12 ∷ 20 ∷ 21 ∷ []) (solveCauses ++ (writeCauses ++ roundsCauses)) ≡ true
+pub numbers-listed : inside (1 ∷ 2 ∷ 3 ∷ 4 ∷ 5 ∷ 6 ∷ 7 ∷ 8 ∷ 9 ∷ 10 ∷ 11 ∷ 12 ∷ 13 ∷ 14 ∷ 20 ∷ 21 ∷ []) (solveCauses ++ (writeCauses ++ roundsCauses)) ≡ true
 unfolding inside without
 numbers-listed = refl

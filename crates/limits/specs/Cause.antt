@@ -10,15 +10,15 @@ unfoldable pub OneOf : ℕ → List ℕ → Type 0
 OneOf k [] = ⊥
 OneOf k (x ∷ xs) = (k ≡ x) ⊎ OneOf k xs
 
--- a line of no listed form
+-- a line of no listed form: an overlong name (13), a barred byte (14), any other fault (5)
 abbrev pub faultCauses : List ℕ
-faultCauses = 5 ∷ []
+faultCauses = 5 ∷ 13 ∷ 14 ∷ []
 
 -- a rule that does not fit: a rule too many, a name too many
 abbrev pub fullCauses : List ℕ
 fullCauses = 7 ∷ 6 ∷ []
 
--- the causes of a line, which come with its number
+-- the causes of a line, which come with the line's number
 abbrev pub lineCauses : List ℕ
 lineCauses = faultCauses ++ fullCauses
 

@@ -120,6 +120,10 @@ impl Refusal {
 
     pub const LONG_WRITTEN: usize = 12;
 
+    pub const LONG_NAME: usize = 13;
+
+    pub const BARRED_BYTE: usize = 14;
+
     pub const RESERVED_BYTE: usize = 20;
 
     pub const UNSETTLED_ENTRY: usize = 21;
@@ -138,6 +142,8 @@ impl Refusal {
         ensures formed { λ r. do ⌜ (← ⟦Refusal::ILL_FORMED⟧ .entry) ≡ 10 ⌝ }
         ensures start { λ r. do ⌜ (← ⟦Refusal::START_LOST⟧ .entry) ≡ 11 ⌝ }
         ensures written { λ r. do ⌜ (← ⟦Refusal::LONG_WRITTEN⟧ .entry) ≡ 12 ⌝ }
+        ensures spelt { λ r. do ⌜ (← ⟦Refusal::LONG_NAME⟧ .entry) ≡ 13 ⌝ }
+        ensures barred { λ r. do ⌜ (← ⟦Refusal::BARRED_BYTE⟧ .entry) ≡ 14 ⌝ }
         ensures reserved { λ r. do ⌜ (← ⟦Refusal::RESERVED_BYTE⟧ .entry) ≡ 20 ⌝ }
         ensures unsettled { λ r. do ⌜ (← ⟦Refusal::UNSETTLED_ENTRY⟧ .entry) ≡ 21 ⌝ }
     {}

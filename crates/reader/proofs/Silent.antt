@@ -1,22 +1,22 @@
 -- Which lines are silent: remarks, and those with nothing after their blanks. Any other has the form from its head on.
 -- Assumes nothing.
 use mathlib.Core.Path.{_≡_, refl, sym, ap, _∙_, subst}
-use mathlib.Core.Bool.{Bool, true, false, _&&_}
-use mathlib.Core.List.{[], _∷_}
+use mathlib.Core.Bool.{Bool, true, false}
+use mathlib.Core.List.{[]}
 use Prim.Native.Nat.{ℕ}
 use native.Mathlib.Omega.{arith}
-use lib.Dec.{eqb}
 use lib.ListN.{drop}
 use Rattle.sets.specs.Set.{pick}
 use Rattle.sets.proofs.Logic.{either, pick-true, pick-false}
 use Rattle.grammar.specs.Bytes.{Bytes, Folding, blank, nameByte, colon, hash, lineEnd}
 use Rattle.grammar.specs.Grammar.{Clause, Form, silent, rule, fault, spelling}
-use Rattle.grammar.specs.Lines.{past, wordsOf, isName, allNames, starts, fromColon, fromHead, formOf}
-use Rattle.grammar.proofs.Words.{form-remark}
+use Rattle.grammar.specs.Lines.{past, wordsOf, isName, allNames, starts, byteFault, wordFault, wordsFault, fromBody, fromColon, fromHead, formOf}
+use Rattle.grammar.proofs.Words.{form-remark, uncolon}
+use Rattle.grammar.proofs.Sorts.{byte-some, word-some, words-some}
 use Rattle.scan.specs.Places.{nameRun}
 use Rattle.clause.specs.Line.{LineEnds, lineAt, formFrom, unblank, faultOf}
 use Rattle.clause.proofs.Places.{sees-line, sees-end}
-use Rattle.clause.proofs.Forms.{line-unblank, by-head}
+use Rattle.clause.proofs.Forms.{line-unblank, headless, with-head}
 use Rattle.reader.specs.State.{formAt}
 
 -- a line that has its end
@@ -42,24 +42,30 @@ abbrev pub Loud : Form → Type 0
 Loud f = (f ≡ silent → ⊥) × (f ≡ fault 0 → ⊥)
 
 -- a rule or a fault
-picked-loud : (b : Bool) (x : Clause) → Loud (pick b (rule x) (fault 5))
+picked-loud : (b : Bool) (x : Clause) (k : ℕ) → (b ≡ false → k ≡ 0 → ⊥) → Loud (pick b (rule x) (fault k))
 unfolding pick faultOf
-picked-loud true x = (λ e. let z : _≡_ {A = ℕ} 0 1 = cc in omega arith, λ e. let z : _≡_ {A = ℕ} 0 1 = cc in omega arith)
-picked-loud false x = (λ e. let z : _≡_ {A = ℕ} 0 1 = cc in omega arith, λ e. omega (arith, ap faultOf e))
+picked-loud true x k n = (λ e. let z : _≡_ {A = ℕ} 0 1 = cc in omega arith, λ e. let z : _≡_ {A = ℕ} 0 1 = cc in omega arith)
+picked-loud false x k n = (λ e. let z : _≡_ {A = ℕ} 0 1 = cc in omega arith, λ e. n refl (ap faultOf e))
 
-fault-loud : Loud (fault 5)
+fault-loud : (k : ℕ) → (k ≡ 0 → ⊥) → Loud (fault k)
 unfolding pick
-fault-loud = picked-loud false (record { head = []; body = [] })
+fault-loud k n = picked-loud false (record { head = []; body = [] }) k (λ e. n)
+
+body-loud : (fold : ℕ → ℕ) (h u : Bytes) → Loud (fromBody fold h u)
+unfolding fromBody
+body-loud fold h u =
+    picked-loud (allNames fold (wordsOf u)) (spelling fold h (wordsOf u)) (wordsFault fold (wordsOf u)) (words-some fold (wordsOf u))
 
 colon-loud : (fold : ℕ → ℕ) (h u : Bytes) → Loud (fromColon fold h u)
 unfolding fromColon
-colon-loud fold h [] = fault-loud
-colon-loud fold h (b ∷ u) = picked-loud (eqb b colon && allNames fold (wordsOf u)) (spelling fold h (wordsOf u))
+colon-loud fold h u =
+    either (starts colon u) (λ c. subst Loud (sym (pick-true (fromBody fold h (drop 1 u)) (fault (byteFault fold u)) c)) (body-loud fold h (drop 1 u)))
+    (λ c. subst Loud (sym (uncolon fold h u c)) (fault-loud (byteFault fold u) (byte-some fold u)))
 
 -- so is every line with bytes, from its head on
 pub head-loud : (fold : ℕ → ℕ) → Folding fold → (t : Bytes) (i : ℕ) → LineEnds t i → starts lineEnd (drop i t) ≡ false → Loud (formFrom fold t i)
 head-loud fold law t i k e =
-    subst Loud (sym (by-head fold law t i k e))
-    (either (isName fold (nameRun fold t i))
-    (λ n. subst Loud (sym (pick-true _ (fault 5) n)) (colon-loud fold (nameRun fold t i) (past blank (past (nameByte fold) (lineAt t i)))))
-    (λ n. subst Loud (sym (pick-false _ (fault 5) n)) fault-loud))
+    either (isName fold (nameRun fold t i))
+    (λ n.
+    subst Loud (sym (with-head fold law t i k e n)) (colon-loud fold (nameRun fold t i) (past blank (past (nameByte fold) (lineAt t i)))))
+    (λ n. subst Loud (sym (headless fold law t i k e n)) (fault-loud (wordFault fold (lineAt t i)) (word-some fold (lineAt t i))))

@@ -7,9 +7,10 @@ use mathlib.Core.List.{List}
 use Prim.Native.Nat.{ℕ, _≤_}
 use lib.ListN.{length}
 use Rattle.limits.specs.Book.{rowWords}
+use Rattle.limits.specs.Cause.{OneOf, faultCauses}
 use Rattle.grammar.specs.Bytes.{Bytes, letters}
 use Rattle.grammar.specs.Grammar.{Clause}
-use Rattle.tables.specs.Reading.{Book}
+use Rattle.tables.specs.Reading.{Book, FirstFault}
 use Rattle.tables.specs.Areas.{Areas, RuleTables, Counts, rulesOf, readCall, programIn}
 use Rattle.tables.specs.Claims.{accepted}
 use Rattle.solving.specs.Plain.{plainCall}
@@ -17,7 +18,7 @@ use Rattle.solving.specs.Listing.{decimal}
 use Rattle.solving.specs.Solve.{SolveAreas, solveCall}
 use Rattle.solving.specs.Held.{HeldIn, Held}
 use Rattle.solving.specs.PlainClaims.{PlainCalls, PlainHolds}
-use Rattle.solving.specs.SolveClaims.{SolveJudges, SolvePast, SolveHolds, SolveRounds}
+use Rattle.solving.specs.SolveClaims.{InRange, SolveJudges, SolvePast, SolveHolds, SolveRounds}
 use Rattle.solving.specs.Sizes.{SolveSizes, PlainSizes}
 use Rattle.solving.specs.ListingClaims.{Decimal, Lists}
 
@@ -25,6 +26,10 @@ use Rattle.solving.specs.ListingClaims.{Decimal, Lists}
 pub record Demands (table : List ℕ) : Type 0 where
   pub decimals : (n : ℕ) → Decimal n (decimal n)
   pub judges : (t : Bytes) (k : ℕ) (old : SolveAreas) → SolveJudges table t k old (solveCall table t k old)
+  -- 5, 13 and 14: each exactly where the first line that is refused has that fault
+  pub faults : (t : Bytes) (k : ℕ) (old : SolveAreas) (q line : ℕ) → OneOf q faultCauses
+      → ((solveCall table t k old .answer .number ≡ q) × (solveCall table t k old .answer .line ≡ line))
+      ↔ (InRange table t k old × FirstFault (letters table) t q line)
   pub untouched : (t : Bytes) (k : ℕ) (old : SolveAreas) → SolvePast old (solveCall table t k old .areas)
   pub sizes : SolveSizes table
   pub holds : (t : Bytes) (k : ℕ) (old : SolveAreas) → solveCall table t k old .answer .number ≡ 0

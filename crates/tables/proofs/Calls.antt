@@ -16,11 +16,11 @@ use Rattle.sets.specs.Set.{pick}
 use Rattle.sets.proofs.Logic.{either, holds, fails, pick-true, pick-false}
 use Rattle.grammar.specs.Bytes.{Bytes, letters}
 use Rattle.grammar.specs.Letters.{FoldTable, LettersJudged, lettersCause}
-use Rattle.grammar.specs.Grammar.{Clause}
-use Rattle.grammar.proofs.Forms.{fault-cause}
+use Rattle.grammar.specs.Grammar.{Clause, fault, Says}
+use Rattle.grammar.proofs.Classes.{fault-cause}
 use Rattle.grammar.proofs.Letters.{letters-judged, letters-pass, letters-cause, letters-other}
 use Rattle.tables.specs.Numbering.{namesOf}
-use Rattle.tables.specs.Reading.{Reading, read, refused, reading, Book, Barred, Refusal}
+use Rattle.tables.specs.Reading.{Reading, read, refused, reading, Book, LineRefused, FirstFault, Refusal}
 use Rattle.areas.specs.Area.{filled}
 use Rattle.tables.specs.Areas.{Areas, Outcome, nameRows, headRows, bodyRows, filledWith, short, tablesOf, refusal, outcome, readCall}
 use Rattle.tables.specs.Claims.{Refuses, Reads, ReadLeaves, ReadCalls, accepted, refusedWith, zeroed}
@@ -44,18 +44,18 @@ unfolding outcome
 outcome-refused k line old = refl
 
 -- a line that is refused has one of the causes of a line
-pub barred-cause : (fold : ℕ → ℕ) (cs : List Clause) (s : Bytes) (q : ℕ) → Barred fold cs s q → OneOf q lineCauses
-unfolding Barred without
-barred-cause fold cs s q (inl x) = one-left q faultCauses fullCauses (fault-cause fold s q x)
-barred-cause fold cs s q (inr (c, says, inl x)) = one-found 7 q lineCauses refl (x .0)
-barred-cause fold cs s q (inr (c, says, inr x)) = one-found 6 q lineCauses refl (x .0)
+pub refused-cause : (fold : ℕ → ℕ) (cs : List Clause) (s : Bytes) (q : ℕ) → LineRefused fold cs s q → OneOf q lineCauses
+unfolding LineRefused without
+refused-cause fold cs s q (inl x) = one-left q faultCauses fullCauses (fault-cause fold s q x)
+refused-cause fold cs s q (inr (c, says, inl x)) = one-found 7 q lineCauses refl (x .0)
+refused-cause fold cs s q (inr (c, says, inr x)) = one-found 6 q lineCauses refl (x .0)
 
 -- a text that is refused has one of the causes of a text
 pub refusal-cause : (fold : ℕ → ℕ) (t : Bytes) (q line : ℕ) → Refusal fold t q line → OneOf q textCauses
 unfolding Refusal without
 refusal-cause fold t q line (inl x) = one-found 3 q textCauses refl (x .0)
 refusal-cause fold t q line (inr (inl x)) = one-found 4 q textCauses refl (x .0)
-refusal-cause fold t q line (inr (inr x)) = one-right q wholeCauses lineCauses (barred-cause fold (x .cs) (x .here) q (x .barred))
+refusal-cause fold t q line (inr (inr x)) = one-right q wholeCauses lineCauses (refused-cause fold (x .cs) (x .here) q (x .refused-for))
 
 -- so its number is not 0
 pub refusal-some : (fold : ℕ → ℕ) (t : Bytes) (q line : ℕ) → Refusal fold t q line → q ≡ 0 → ⊥
@@ -76,12 +76,28 @@ pub refusal-placed : (fold : ℕ → ℕ) (t : Bytes) (k line : ℕ) → Refusal
 unfolding Refusal without
 refusal-placed fold t k line (inl x) = inl (x .1, one-found 3 k keptCauses refl (x .0))
 refusal-placed fold t k line (inr (inl x)) = inl (x .1, one-found 4 k keptCauses refl (x .0))
-refusal-placed fold t k line (inr (inr x)) = inr (λ z. omega (arith, x .number), barred-cause fold (x .cs) (x .here) k (x .barred))
+refusal-placed fold t k line (inr (inr x)) = inr (λ z. omega (arith, x .number), refused-cause fold (x .cs) (x .here) k (x .refused-for))
 
 refuses-placed : (fold : ℕ → ℕ) (t : Bytes) (k line : ℕ) → Refuses fold t k line → Placed k line
 unfolding without
 refuses-placed fold t k line (inl x) = inl (x .2, one-found 2 k keptCauses refl (x .1))
 refuses-placed fold t k line (inr x) = refusal-placed fold t k line (x .1)
+
+-- a fault's number comes from a fault of the first line that is refused, and from nothing else
+pub refusal-fault : (fold : ℕ → ℕ) (t : Bytes) (k line : ℕ) → OneOf k faultCauses → Refusal fold t k line → FirstFault fold t k line
+unfolding Refusal LineRefused without
+refusal-fault fold t k line m (inl x) = absurd (other 3 k faultCauses refl m (x .0))
+refusal-fault fold t k line m (inr (inl x)) = absurd (other 4 k faultCauses refl m (x .0))
+refusal-fault fold t k line m (inr (inr x)) = (x, of-line (x .refused-for))
+  where
+    of-line : LineRefused fold (x .cs) (x .here) k → Says fold (x .here) (fault k)
+    of-line (inl d) = d
+    of-line (inr (c, says, inl (e, full))) = absurd (other 7 k faultCauses refl m e)
+    of-line (inr (c, says, inr (e, room, many))) = absurd (other 6 k faultCauses refl m e)
+
+pub fault-refusal : (fold : ℕ → ℕ) (t : Bytes) (k line : ℕ) → FirstFault fold t k line → Refusal fold t k line
+unfolding Refusal
+fault-refusal fold t k line x = inr (inr (x .0))
 
 -- cleared areas are zero over their stated sizes
 pub cleared-zero : (old : Areas) → filledWith [] [] old ≡ zeroed old
@@ -258,6 +274,19 @@ module _ (table : List ℕ) (judge : FoldTable table → Reads (letters table)) 
   unfolding Refused
   from-cause k line (l, passes, x) = answered k line (on-refused k line (l, passes) (judge passes .refuses t k line .1 x))
 
+  -- a fault of a line
+  module _ (k line : ℕ) (m : OneOf k faultCauses) where
+    to-fault : Answered k line → (short old ≡ false) × FoldTable table × (length t ≤ textBytes) × FirstFault fold t k line
+    unfolding Refused without apart
+    to-fault e =
+        let x : Refused k line = to-cause k line (other 0 k faultCauses refl m) (one-apart k faultCauses letterCauses refl m) e in
+        ⊎-elim (λ (y : (textBytes < length t) × (k ≡ 2) × (line ≡ 0)). absurd (other 2 k faultCauses refl m (y .1)))
+        (λ (y : (length t ≤ textBytes) × Refusal fold t k line). (x .0, x .1, y .0, refusal-fault fold t k line m (y .1))) (x .2)
+
+    from-fault : (short old ≡ false) × FoldTable table × (length t ≤ textBytes) × FirstFault fold t k line → Answered k line
+    unfolding Refused
+    from-fault (l, passes, fits, x) = from-cause k line (l, passes, inr (fits, fault-refusal fold t k line x))
+
   -- what it returns and leaves
   leaves-reading : Ready table old → (x : Reading) → reading fold t ≡ x → ReadLeaves old (readCall table t old)
   leaves-reading l (read cs) q = subst (ReadLeaves old) (sym (on-read cs l q)) (leaves-accepted old (length (namesOf cs)) (length cs) (tablesOf cs old))
@@ -299,6 +328,7 @@ read-calls table judge =
       );
       letters-judged = judged-first table judge;
       refuses = λ t old k line some later. (to-cause table judge t old k line some later, from-cause table judge t old k line);
+      faults = λ t old k line m. (to-fault table judge t old k line m, from-fault table judge t old k line m);
       leaves = leaves-call table judge;
       every-call = one-or-other table judge;
     }

@@ -21,7 +21,7 @@ use Rattle.tables.specs.Numbering.{sameBytes, namesOf}
 use Rattle.tables.specs.Reading.{read, refused, Saying, Fits, Book, Refusal, readLines, marked, ended, bookOf, reading}
 use Rattle.tables.specs.Claims.{Judged, Reads}
 use Rattle.tables.proofs.Numbering.{same-bytes-eq, same-bytes-refl, names-none}
-use Rattle.tables.proofs.Loop.{read-refused, refused-number, refused-line, Passed, passed, Stopped, stopped, read-barred, read-all}
+use Rattle.tables.proofs.Loop.{read-refused, refused-number, refused-line, Passed, passed, Stopped, stopped, read-to-refusal, read-all}
 
 -- the test for the mark
 pub marked-find : (t : Bytes) → marked t ≡ true → Marked t
@@ -142,7 +142,7 @@ module _ (fold : ℕ → ℕ) where
           cs = r .es;
           says = r .says;
           fits = r .fits;
-          barred = r .barred;
+          refused-for = r .refused-for;
           number = r .number;
         })))
         (λ e.
@@ -168,7 +168,7 @@ module _ (fold : ℕ → ℕ) where
         ∙ ap (λ (a : ℕ). refused a 0) (sym j) ∙ ap (refused k) (sym at)
     refusal-refused t k line (inr (inr b)) =
         text-lines t (b .above ++ (b .here ∷ b .below)) (b .text)
-        ∙ read-barred fold forms (b .above) (b .below) (b .here) [] (b .cs) 2 k (b .says) (b .fits) (b .barred)
+        ∙ read-to-refusal fold forms (b .above) (b .below) (b .here) [] (b .cs) 2 k (b .says) (b .fits) (b .refused-for)
         ∙ ap (refused k) (sym (b .number))
 
     -- texts are accepted and refused as the grammar says

@@ -18,7 +18,7 @@ use Rattle.grammar.specs.Grammar.{Clause, Form, silent, rule, fault, Says}
 use Rattle.grammar.specs.Lines.{formOf}
 use Rattle.grammar.specs.Claims.{Classified}
 use Rattle.tables.specs.Numbering.{namesOf}
-use Rattle.tables.specs.Reading.{read, refused, Saying, Fits, Barred, lineCause, taken, readLines}
+use Rattle.tables.specs.Reading.{read, refused, Saying, Fits, LineRefused, lineCause, taken, readLines}
 use Rattle.tables.proofs.Numbering.{names-le}
 
 -- what is read is not refused
@@ -168,11 +168,11 @@ module _ (fold : ℕ → ℕ) where
         → (p : Step s cs) → readLines fold (s ∷ ls) cs line ≡ readLines fold ls (cs ++ p .new) (suc line)
     step-on s ls cs line z p = read-on s ls cs line z ∙ ap (λ (xs : List Clause). readLines fold ls xs (suc line)) (p .next)
 
-    -- the cause of a line bars it
-    cause-bars : (s : Bytes) (cs : List Clause) → Fits cs → (lineCause cs (formOf fold s) ≡ 0 → ⊥)
-        → Barred fold cs s (lineCause cs (formOf fold s))
-    unfolding lineCause Barred
-    cause-bars s cs ok n =
+    -- a line is refused for its cause
+    cause-refuses : (s : Bytes) (cs : List Clause) → Fits cs → (lineCause cs (formOf fold s) ≡ 0 → ⊥)
+        → LineRefused fold cs s (lineCause cs (formOf fold s))
+    unfolding lineCause LineRefused
+    cause-refuses s cs ok n =
         by-form (formOf fold s) (λ q. absurd (n (ap (lineCause cs) q)))
         (λ c q.
         let says : Says fold s (rule c) = forms .forms s (rule c) .1 q in
@@ -184,13 +184,13 @@ module _ (fold : ℕ → ℕ) where
         (λ l m. absurd (n (ap (lineCause cs) q ∙ cause-none cs c l m))))
         (λ k q. inl (subst (λ (j : ℕ). Says fold s (fault j)) (sym (ap (lineCause cs) q)) (forms .forms s (fault k) .1 q)))
 
-    -- and what bars a line is its cause
-    bars-cause : (s : Bytes) (cs : List Clause) (k : ℕ) → Barred fold cs s k → (lineCause cs (formOf fold s) ≡ k) × (k ≡ 0 → ⊥)
-    unfolding lineCause Barred
-    bars-cause s cs k (inl m) = (ap (lineCause cs) (forms .forms s (fault k) .0 m), nonzero-fault s k m)
-    bars-cause s cs k (inr (c, m, inl (e, full))) =
+    -- and for nothing else
+    refuses-cause : (s : Bytes) (cs : List Clause) (k : ℕ) → LineRefused fold cs s k → (lineCause cs (formOf fold s) ≡ k) × (k ≡ 0 → ⊥)
+    unfolding lineCause LineRefused
+    refuses-cause s cs k (inl m) = (ap (lineCause cs) (forms .forms s (fault k) .0 m), nonzero-fault s k m)
+    refuses-cause s cs k (inr (c, m, inl (e, full))) =
         (ap (lineCause cs) (forms .forms s (rule c) .0 m) ∙ cause-rules cs c (omega arith) ∙ sym e, λ z. omega arith)
-    bars-cause s cs k (inr (c, m, inr (e, l, many))) =
+    refuses-cause s cs k (inr (c, m, inr (e, l, many))) =
         (ap (lineCause cs) (forms .forms s (rule c) .0 m) ∙ cause-names cs c l many ∙ sym e, λ z. omega arith)
 
     -- Lines that are read to the end.
@@ -235,10 +235,10 @@ module _ (fold : ℕ → ℕ) where
       pub whole : ls ≡ above ++ (here ∷ below)
       pub says : Saying fold above es
       pub fits : Fits (cs ++ es)
-      pub barred : Barred fold (cs ++ es) here k
+      pub refused-for : LineRefused fold (cs ++ es) here k
       pub number : at ≡ length above + line
 
-    -- what is refused is refused for its first barred line
+    -- what is refused is refused for its first refused line
     pub stopped : (ls : List Bytes) (cs : List Clause) (line k at : ℕ) → Fits cs
         → readLines fold ls cs line ≡ refused k at → Stopped ls cs line k at
     unfolding Saying
@@ -261,7 +261,7 @@ module _ (fold : ℕ → ℕ) where
           whole = ap (λ (xs : List Bytes). s ∷ xs) (r .whole);
           says = p .says (r .above) (r .es) (r .says);
           fits = subst Fits q (r .fits);
-          barred = subst (λ (xs : List Clause). Barred fold xs (r .here) k) q (r .barred);
+          refused-for = subst (λ (xs : List Clause). LineRefused fold xs (r .here) k) q (r .refused-for);
           number = omega (arith, r .number);
         })
         (λ t.
@@ -275,8 +275,8 @@ module _ (fold : ℕ → ℕ) where
           whole = refl;
           says = refl;
           fits = subst Fits (sym (append-nil cs)) ok;
-          barred = subst (λ (j : ℕ). Barred fold (cs ++ []) s j) (refused-number (lineCause cs (formOf fold s)) line k at same)
-              (subst (λ (xs : List Clause). Barred fold xs s (lineCause cs (formOf fold s))) (sym (append-nil cs)) (cause-bars s cs ok n));
+          refused-for = subst (λ (j : ℕ). LineRefused fold (cs ++ []) s j) (refused-number (lineCause cs (formOf fold s)) line k at same)
+              (subst (λ (xs : List Clause). LineRefused fold xs s (lineCause cs (formOf fold s))) (sym (append-nil cs)) (cause-refuses s cs ok n));
           number = omega (arith, refused-line (lineCause cs (formOf fold s)) line k at same);
         })
 
@@ -300,12 +300,12 @@ module _ (fold : ℕ → ℕ) where
         ∙ read-through above rest (cs ++ (c ∷ [])) ds (suc line) m f
         ∙ ap₂ (λ (xs : List Clause) (n : ℕ). readLines fold rest xs n) (sym w) z
 
-    -- so a barred line after them is refused
-    pub read-barred : (above below : List Bytes) (here : Bytes) (cs es : List Clause) (line k : ℕ) → Saying fold above es
-        → Fits (cs ++ es) → Barred fold (cs ++ es) here k
+    -- so a line that is refused after them stops the reading
+    pub read-to-refusal : (above below : List Bytes) (here : Bytes) (cs es : List Clause) (line k : ℕ) → Saying fold above es
+        → Fits (cs ++ es) → LineRefused fold (cs ++ es) here k
         → readLines fold (above ++ (here ∷ below)) cs line ≡ refused k (length above + line)
-    read-barred above below here cs es line k m ok b =
-        let q = bars-cause here (cs ++ es) k b in
+    read-to-refusal above below here cs es line k m ok b =
+        let q = refuses-cause here (cs ++ es) k b in
         read-through above (here ∷ below) cs es line m ok
         ∙ read-stop here below (cs ++ es) (length above + line) (λ z. q .1 (sym (q .0) ∙ z))
         ∙ ap (λ (j : ℕ). refused j (length above + line)) (q .0)

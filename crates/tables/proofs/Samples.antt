@@ -8,7 +8,8 @@ use Prim.Native.String.{String}
 use Rattle.sets.specs.Set.{pick, members}
 use Rattle.grammar.specs.Bytes.{Bytes, bytes, blank, small, ourLetters, nameByte, allOf}
 use Rattle.grammar.specs.Grammar.{Clause, rule, joined}
-use Rattle.grammar.specs.Lines.{span, grown, lines, goesOn, wordsOf, isName, allNames, fromColon, fromHead, starts, formOf}
+use Rattle.grammar.specs.Lines.{span, grown, lines, goesOn, wordsOf, isName, allNames, starts, barred, byteFault, wordFault, wordsFault, fromBody}
+use Rattle.grammar.specs.Lines.{fromColon, fromHead, formOf}
 use Rattle.tables.specs.Numbering.{sameBytes, place, meet, meetAll, standing, namesOf, places, numbered}
 use Rattle.tables.specs.Reading.{Reading, read, refused, lineCause, taken, readLines, bookOf, reading}
 use Rattle.tables.specs.Writing.{spacedOn, spaced, ruleText, written}
@@ -31,7 +32,8 @@ table =
     ∷ ("DPB 0001\na:b", 4, 0, "")
     ∷ ("DPB 0001\na b\nc", 4, 0, "")
     ∷ ("DPB 0001\n:\n", 5, 2, "")
-    ∷ ("DPB 0001\na:b\n\n#\na:b\r\n", 5, 5, "")
+    ∷ ("DPB 0001\na:b\n\n#\na:b\r\n", 14, 5, "")
+    ∷ ("DPB 0001\na:b\na:abcdefghijklmnopqrstuvwxyz-0123456\n\r\n", 13, 3, "")
     ∷ ("DPB 0001\np:q\nq:p r\nq:s\ns:\n", 0, 0, "DPB 0001\np:q\nq:p r\nq:s\ns:\n")
     ∷ ("DPB 0001\n# x\n\n c : b a c\tB\nA:\n", 0, 0, "DPB 0001\nc:c b a\na:\n")
     ∷ ("DPB 0001\na:b\na:b\nA: B b\n", 0, 0, "DPB 0001\na:b\na:b\na:b\n")
@@ -39,7 +41,7 @@ table =
 
 -- they come to that
 pub texts-agree : map (λ (x : Sample). come-to (reading ourLetters (bytes (x .0)))) table ≡ map (λ (x : Sample). (x .1, x .2, bytes (x .3))) table
-unfolding pick members blank small ourLetters nameByte allOf joined span grown lines goesOn wordsOf isName allNames fromColon fromHead starts formOf sameBytes place meet meetAll standing namesOf places numbered lineCause taken readLines bookOf reading spacedOn spaced ruleText written
+unfolding pick members blank small ourLetters nameByte allOf joined span grown lines goesOn wordsOf isName allNames starts barred byteFault wordFault wordsFault fromBody fromColon fromHead formOf sameBytes place meet meetAll standing namesOf places numbered lineCause taken readLines bookOf reading spacedOn spaced ruleText written
 texts-agree = refl
 
 -- Lines at the limits of names and rules, built from numbers; as text they are in the crate `known`.
@@ -59,11 +61,11 @@ abbrev pub wide : ℕ → Clause
 wide n = record { head = bytes "a"; body = namesOn (n - 1) 0 }
 
 -- the clauses above, a clause, and the cause for which its line is refused
-abbrev pub Barring : Type 0
-Barring = List Clause × Clause × ℕ
+abbrev pub AtLimit : Type 0
+AtLimit = List Clause × Clause × ℕ
 
-abbrev pub barrings : List Barring
-barrings =
+abbrev pub atLimits : List AtLimit
+atLimits =
     ([], wide 128, 0)
     ∷ ([], wide 129, 6)
     ∷ (times 255 (wide 1), wide 1, 0)
@@ -72,6 +74,6 @@ barrings =
     ∷ []
 
 -- they are refused for these
-pub causes-agree : map (λ (x : Barring). lineCause (x .0) (rule (x .1))) barrings ≡ map (λ (x : Barring). x .2) barrings
+pub causes-agree : map (λ (x : AtLimit). lineCause (x .0) (rule (x .1))) atLimits ≡ map (λ (x : AtLimit). x .2) atLimits
 unfolding pick sameBytes place meet meetAll standing namesOf lineCause times namesOn
 causes-agree = refl

@@ -7,13 +7,13 @@ use mathlib.Core.List.{List, [], _∷_, _++_}
 use Prim.Native.Nat.{ℕ, _<_, _≤_}
 use lib.ListN.{length, getD, drop, replicate}
 use Rattle.limits.specs.Book.{textBytes, rules, nameArea, bodyArea}
-use Rattle.limits.specs.Cause.{OneOf, letterCauses, lineCauses, keptCauses, readCauses}
+use Rattle.limits.specs.Cause.{OneOf, faultCauses, letterCauses, lineCauses, keptCauses, readCauses}
 use Rattle.program.specs.Program.{WellFormed}
 use Rattle.grammar.specs.Bytes.{Bytes, Among, letters}
 use Rattle.grammar.specs.Letters.{FoldTable, LettersJudged}
 use Rattle.grammar.specs.Grammar.{Clause}
 use Rattle.tables.specs.Numbering.{place, standing, namesOf, programOf}
-use Rattle.tables.specs.Reading.{read, refused, bookOf, reading, Book, Refusal}
+use Rattle.tables.specs.Reading.{read, refused, bookOf, reading, Book, FirstFault, Refusal}
 use Rattle.tables.specs.Areas.{Areas, Outcome, short, tablesOf, refusal, readCall}
 
 -- texts are accepted and refused as the grammar says, whatever their length
@@ -48,7 +48,7 @@ zeroed old =
       bodies = replicate bodyArea 0 ++ drop bodyArea (old .bodies);
     }
 
--- "Returned" and "Left" of document 01's table, by number: r is what the reader returns and leaves of the areas old
+-- "Returned" and "Left" of document 01's table and of document 02, by number: r is what the reader returns and leaves of the areas old
 pub record ReadLeaves (old : Areas) (r : Outcome) : Type 0 where
   -- 0 and these are all its numbers
   pub no-other : (r .answer .number ≡ 0) ⊎ OneOf (r .answer .number) readCauses
@@ -71,7 +71,11 @@ pub record ReadCalls (table : List ℕ) : Type 0 where
   pub refuses : (t : Bytes) (old : Areas) (k line : ℕ) → (k ≡ 0 → ⊥) → (OneOf k letterCauses → ⊥)
       → ((readCall table t old .answer .number ≡ k) × (readCall table t old .answer .line ≡ line))
       ↔ ((short old ≡ false) × FoldTable table × Refuses (letters table) t k line)
-  -- and returns and leaves what document 01 says of that number
+  -- 5, 13 and 14: each exactly where the first line that is refused has that fault
+  pub faults : (t : Bytes) (old : Areas) (k line : ℕ) → OneOf k faultCauses
+      → ((readCall table t old .answer .number ≡ k) × (readCall table t old .answer .line ≡ line))
+      ↔ ((short old ≡ false) × FoldTable table × (length t ≤ textBytes) × FirstFault (letters table) t k line)
+  -- and returns and leaves what documents 01 and 02 say of that number
   pub leaves : (t : Bytes) (old : Areas) → ReadLeaves old (readCall table t old)
   -- every call is one or the other
   pub every-call : (t : Bytes) (old : Areas) → ((n : ℕ) × (m : ℕ) × (o : Areas) × (readCall table t old ≡ accepted n m o))

@@ -36,14 +36,14 @@ pub record Book (fold : ℕ → ℕ) (t : Bytes) (cs : List Clause) : Type 0 whe
   pub fits : Fits cs
 
 -- after the clauses cs, the line s is refused under this number: that of its fault, then 7, then 6
-unfoldable pub Barred : (ℕ → ℕ) → List Clause → Bytes → ℕ → Type 0
-Barred fold cs s k =
+unfoldable pub LineRefused : (ℕ → ℕ) → List Clause → Bytes → ℕ → Type 0
+LineRefused fold cs s k =
     Says fold s (fault k)
     ⊎ ((c : Clause) × Says fold s (rule c)
     × (((k ≡ 7) × (length cs ≡ rules)) ⊎ ((k ≡ 6) × (length cs < rules) × (names < length (namesOf (cs ++ (c ∷ [])))))))
 
 -- line number `line` is the first that is refused, under the number k
-pub record FirstBarred (fold : ℕ → ℕ) (t : Bytes) (k line : ℕ) : Type 0 where
+pub record FirstRefused (fold : ℕ → ℕ) (t : Bytes) (k line : ℕ) : Type 0 where
   pub above : List Bytes
   pub here : Bytes
   pub below : List Bytes
@@ -51,15 +51,19 @@ pub record FirstBarred (fold : ℕ → ℕ) (t : Bytes) (k line : ℕ) : Type 0 
   pub cs : List Clause
   pub says : Saying fold above cs
   pub fits : Fits cs
-  pub barred : Barred fold cs here k
+  pub refused-for : LineRefused fold cs here k
   pub number : line ≡ length above + 2
+
+-- the same, where the cause is the line's own form: it has the fault of number k
+abbrev pub FirstFault : (ℕ → ℕ) → Bytes → ℕ → ℕ → Type 0
+FirstFault fold t k line = (x : FirstRefused fold t k line) × Says fold (x .here) (fault k)
 
 -- the text is refused under number k with that line, 0 for none: 3, then 4, then lines downward; its length aside
 unfoldable pub Refusal : (ℕ → ℕ) → Bytes → ℕ → ℕ → Type 0
 Refusal fold t k line =
     ((k ≡ 3) × (line ≡ 0) × (Marked t → ⊥))
     ⊎ (((k ≡ 4) × (line ≡ 0) × Marked t × (Ended t → ⊥))
-    ⊎ FirstBarred fold t k line)
+    ⊎ FirstRefused fold t k line)
 
 -- Computed.
 

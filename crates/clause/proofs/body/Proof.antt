@@ -33,9 +33,18 @@ loop-holds c = let s = c .before .before .before .before .before .before .before
       refl,
     )
 
+word-fault-requires : tie.Need-word-fault-requires Inv-loop μ-loop
+word-fault-requires c κs =
+    let at-is-name = c .before in
+    let at-word = at-is-name .before in
+    let at-loop = at-word .before .before .before in
+    let s = at-loop .before .before .before .before .before .before .before .before in
+    ((at-loop .loop .inv .0 .walk .closed, s .pre .0 .1), at-word .word .ensures .0)
+
 returns : tie.Need-returns Inv-loop μ-loop
 returns c =
-    let at-is-name = c .before in
+    let at-if2 = c .before in
+    let at-is-name = at-if2 .before in
     let at-word = at-is-name .before in
     let at-if1 = at-word .before in
     let at-sees = at-if1 .before in
@@ -48,9 +57,10 @@ returns c =
     let y = lexiconOf (l .done .names) (l .spellings) (l .first) (l .prior) in (
       (refl, l .inv .4 ∙ ap (λ (k : Cursor). k .line) (at-past-blanks .past-blanks .ensures)),
       passed-fault _ (s .pre .0 .1 .1) (a .text .now) _ (l .here .at) (a .room) x (l .done .room) y (a .row .now) (l .row) (l .inv .0) (a .cursor .at)
-          (s .pre .0 .0) (ap (λ (k : Cursor). k .at) (at-past-blanks .past-blanks .ensures)) _
+          (s .pre .0 .0) (ap (λ (k : Cursor). k .at) (at-past-blanks .past-blanks .ensures)) _ _
           (sym (at-sees .sees .ensures) ∙ not-true _ (at-if1 .if1 .taken))
-          (sym (at-is-name .is-name .ensures _ (a .text .now) (at-word .word .ensures .0)) ∙ not-true _ (c .if2 .taken)),
+          (sym (at-is-name .is-name .ensures _ (a .text .now) (at-word .word .ensures .0)) ∙ not-true _ (at-if2 .if2 .taken))
+          (c .word-fault .ensures),
     )
 
 join-requires : tie.Need-join-requires Inv-loop μ-loop
@@ -144,10 +154,11 @@ body-spec =
     (λ c κs. search needs)
     (λ c κs. search needs)
     (λ c κs. search needs)
-    (λ c. c .before .before .before .before .before .loop .inv .0 .kept .as-long)
-    (λ c. c .before .before .before .before .before .loop .inv .1)
-    (λ c. c .before .before .before .before .before .loop .inv .2)
-    (λ c. c .before .before .before .before .before .loop .inv .3)
+    word-fault-requires
+    (λ c. c .before .before .before .before .before .before .loop .inv .0 .kept .as-long)
+    (λ c. c .before .before .before .before .before .before .loop .inv .1)
+    (λ c. c .before .before .before .before .before .before .loop .inv .2)
+    (λ c. c .before .before .before .before .before .before .loop .inv .3)
     returns
     join-requires
     (λ c κs. search needs)

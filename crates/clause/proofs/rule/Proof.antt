@@ -9,24 +9,34 @@ use Rattle.limits.specs.Book.{bodyWords}
 use Rattle.sets.specs.Set.{emptySet}
 use Rattle.words.proofs.Rows.{length-pack}
 use Rattle.grammar.specs.Bytes.{letters}
+use Rattle.grammar.specs.Grammar.{fault}
+use Rattle.grammar.proofs.Sorts.{byte-some, word-some}
 use Rattle.scan.specs.declared.cursor.Cursor.{Cursor}
 use Rattle.clause.specs.declared.Found.{Found}
-use Rattle.clause.specs.Line.{LineEnds}
+use Rattle.clause.specs.Line.{LineEnds, lineAt}
 use Rattle.clause.specs.Found.{lexiconOf, Bodied, Said}
-use Rattle.clause.proofs.Forms.{past-word, headless, uncoloned, colon-in, closed-body}
+use Rattle.clause.proofs.Forms.{past-word, headless, uncoloned, behind-in, closed-body}
 use Rattle.clause.proofs.Rows.{row-clear}
 use Rattle.clause.proofs.Saying.{said-fault, met-ready, said-body}
 use Rattle.clause.proofs.rule.Statement.{statement}
 use Rattle.clause.proofs.rule.Tie as tie
 
+word-fault-requires : tie.Need-word-fault-requires
+word-fault-requires c κs =
+    let at-word = c .before .before in
+    let s = at-word .before .before .before .before .before .before .before in
+    ((s .pre .0 .0, s .pre .1 .0 .0), at-word .word .ensures .0)
+
 returns : tie.Need-returns
 returns c =
-    let at-if1 = c .before in
+    let at-word-fault = c .before in
+    let at-if1 = at-word-fault .before in
     let at-is-name = at-if1 .before in
     let at-word = at-is-name .before in
     let s = at-word .before .before .before .before .before .before .before in
     let a = s .args in
     let x = lexiconOf (a .n) (a .spellings .now) (a .first .now) (a .prior .now) in
+    let f = at-word-fault .word-fault in
     subst
     (λ (r : Found).
     (r .cursor .line ≡ a .cursor .line)
@@ -34,21 +44,41 @@ returns c =
     (lexiconOf (r .names) (a .spellings .now) (a .first .now) (a .prior .now)) (a .row .now))
     (sym (c .at-fault .ensures)) (
       refl,
-      said-fault _ (a .text .now) (a .cursor .at) x _ _ _ (a .row .now)
+      said-fault _ (a .text .now) (a .cursor .at) x _ _ _ _ (a .row .now)
           (headless _ (s .pre .1 .0 .0 .1) (a .text .now) (a .cursor .at) (s .pre .0 .0) (s .pre .0 .1)
-          (sym (at-is-name .is-name .ensures _ (a .text .now) (at-word .word .ensures .0)) ∙ not-true _ (at-if1 .if1 .taken))),
+          (sym (at-is-name .is-name .ensures _ (a .text .now) (at-word .word .ensures .0)) ∙ not-true _ (at-if1 .if1 .taken))
+          ∙ ap fault (sym (f .ensures)))
+          (λ o. word-some _ (lineAt (a .text .now) (a .cursor .at)) (sym (f .ensures) ∙ o)),
     )
 
-returns-2 : tie.Need-returns-2
-returns-2 c =
-    let at-if2 = c .before in
-    let at-sees = at-if2 .before in
+byte-fault-requires : tie.Need-byte-fault-requires
+byte-fault-requires c κs =
+    let at-sees = c .before in
     let at-past-blanks = at-sees .before in
     let at-moved = at-past-blanks .before in
     let at-word = at-moved .before .before .before in
     let s = at-word .before .before .before .before .before .before .before in
+    let a = s .args in (
+      behind-in _ (s .pre .1 .0 .0 .1) (a .text .now) (a .cursor .at) (s .pre .0 .0) (s .pre .0 .1) _
+          (past-word _ (a .text .now) (a .cursor .at) _ _ (ap (λ (k : Cursor). k .at) (at-moved .moved .ensures) ∙ at-word .word .ensures .0)
+          (ap (λ (k : Cursor). k .at) (at-past-blanks .past-blanks .ensures))),
+      s .pre .1 .0 .0,
+    )
+
+returns-2 : tie.Need-returns-2
+returns-2 c =
+    let at-byte-fault = c .before in
+    let at-if2 = at-byte-fault .before in
+    let at-sees = at-if2 .before in
+    let at-past-blanks = at-sees .before in
+    let at-moved = at-past-blanks .before in
+    let at-if1 = at-moved .before in
+    let at-is-name = at-if1 .before in
+    let at-word = at-is-name .before in
+    let s = at-word .before .before .before .before .before .before .before in
     let a = s .args in
     let x = lexiconOf (a .n) (a .spellings .now) (a .first .now) (a .prior .now) in
+    let f = at-byte-fault .byte-fault in
     subst
     (λ (r : Found).
     (r .cursor .line ≡ a .cursor .line)
@@ -56,11 +86,14 @@ returns-2 c =
     (lexiconOf (r .names) (a .spellings .now) (a .first .now) (a .prior .now)) (a .row .now))
     (sym (c .at-fault2 .ensures)) (
       ap (λ (k : Cursor). k .line) (at-past-blanks .past-blanks .ensures) ∙ ap (λ (k : Cursor). k .line) (at-moved .moved .ensures),
-      said-fault _ (a .text .now) (a .cursor .at) x _ _ _ (a .row .now)
+      said-fault _ (a .text .now) (a .cursor .at) x _ _ _ _ (a .row .now)
           (uncoloned _ (s .pre .1 .0 .0 .1) (a .text .now) (a .cursor .at) (s .pre .0 .0) (s .pre .0 .1) _
           (past-word _ (a .text .now) (a .cursor .at) _ _ (ap (λ (k : Cursor). k .at) (at-moved .moved .ensures) ∙ at-word .word .ensures .0)
           (ap (λ (k : Cursor). k .at) (at-past-blanks .past-blanks .ensures)))
-          (sym (at-sees .sees .ensures) ∙ not-true _ (at-if2 .if2 .taken))),
+          (sym (at-is-name .is-name .ensures _ (a .text .now) (at-word .word .ensures .0)) ∙ not-false _ (at-if1 .if1 .left))
+          (sym (at-sees .sees .ensures) ∙ not-true _ (at-if2 .if2 .taken))
+          ∙ ap fault (sym (f .ensures)))
+          (λ o. byte-some _ _ (sym (f .ensures) ∙ o)),
     )
 
 meet-head-requires : tie.Need-meet-head-requires
@@ -85,18 +118,15 @@ meet-head-requires c κs =
 
 add-moved : tie.Need-add-moved
 add-moved c =
-    let at-if2 = c .before .before .before .before .before .before .before .before .before .before .before in
-    let at-sees = at-if2 .before in
-    let at-past-blanks = at-sees .before in
+    let at-past-blanks = c .before .before .before .before .before .before .before .before .before .before .before .before .before in
     let at-moved = at-past-blanks .before in
     let at-word = at-moved .before .before .before in
     let s = at-word .before .before .before .before .before .before .before in
     let a = s .args in
     let l =
-    colon-in _ (s .pre .1 .0 .0 .1) (a .text .now) (a .cursor .at) (s .pre .0 .0) (s .pre .0 .1) _
+    behind-in _ (s .pre .1 .0 .0 .1) (a .text .now) (a .cursor .at) (s .pre .0 .0) (s .pre .0 .1) _
     (past-word _ (a .text .now) (a .cursor .at) _ _ (ap (λ (k : Cursor). k .at) (at-moved .moved .ensures) ∙ at-word .word .ensures .0)
-    (ap (λ (k : Cursor). k .at) (at-past-blanks .past-blanks .ensures)))
-    (sym (at-sees .sees .ensures) ∙ not-false _ (at-if2 .if2 .left)) in
+    (ap (λ (k : Cursor). k .at) (at-past-blanks .past-blanks .ensures))) in
     record { fits = omega (arith, l) }
 
 body-requires : tie.Need-body-requires
@@ -167,11 +197,13 @@ rule-spec =
     (tie.spec
     (λ c κs. search needs)
     (λ c κs. search needs)
+    word-fault-requires
     (λ c κs. search needs)
     returns
     (λ c κs. search needs)
     (λ c κs. search needs)
     (λ c κs. search needs)
+    byte-fault-requires
     (λ c κs. search needs)
     returns-2
     meet-head-requires
