@@ -85,14 +85,26 @@ static inline size_t number_of(struct book *book, const struct word *word) {
     return a;
 }
 
-// The rule at p, up to its line end, which it returns; NULL where the line has no listed form. The form of a whole line is judged before its
-// room: so a line that finds none is read on, and *cause says what it lacks.
+// What a line is refused under that has no listed form, by the byte where a rule does not go on; for a name byte, the caller knows.
+__attribute__((cold, noinline)) static uint64_t fault_at(uint8_t b, uint64_t of_name) {
+    if (fold[b] != 0) return of_name;
+    return b == ':' || b == '\n' ? DPB_REFUSED_LINE : DPB_REFUSED_BARRED_BYTE;
+}
+
+// The rule at p, up to its line end, which it returns; *cause says under what the line is refused, 0 where it is not. The form of a whole line
+// is judged before its room: so a line that finds none is read on. A run at whose first byte no name was taken is too long, if it is one.
 static const uint8_t *read_rule(const uint8_t *p, struct book *book, uint64_t *cause) {
     struct word word;
     take_word(p, &word);
-    if (word.length == 0) return NULL;
+    if (word.length == 0) {
+        *cause = fault_at(*p, DPB_REFUSED_LONG_NAME);
+        return p;
+    }
     p = past_blanks(word.end);
-    if (*p++ != ':') return NULL;
+    if (*p++ != ':') {
+        *cause = fault_at(p[-1], DPB_REFUSED_LINE);
+        return p;
+    }
     uint64_t lacks = 0;
     uint64_t body[BODY_WORDS] = {0, 0};
     size_t head = 0;
@@ -105,7 +117,10 @@ static const uint8_t *read_rule(const uint8_t *p, struct book *book, uint64_t *c
         p = past_blanks(p);
         if (*p == '\n') break;
         take_word(p, &word);
-        if (word.length == 0) return NULL;
+        if (word.length == 0) {
+            *cause = fault_at(*p, DPB_REFUSED_LONG_NAME);
+            return p;
+        }
         p = word.end;
         if (lacks) continue;
         size_t a = number_of(book, &word);
@@ -141,7 +156,6 @@ uint64_t read_book(const uint8_t *text, size_t text_len, struct book *book) {
         if (*p == '\n') continue;
         uint64_t cause;
         p = read_rule(p, book, &cause);
-        if (p == NULL) return refusal(DPB_REFUSED_LINE, line);
         if (cause) return refusal(cause, line);
     }
     return 0;

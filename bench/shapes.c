@@ -146,10 +146,10 @@ static void everyday(struct text *text) {
     add(text, "release: notify signed\n");
 }
 
-// Reading alone: as many rules as fit, then a line at fault.
+// Reading alone: as many rules as fit, then a line at fault. A colon first is refused under 5 by every release, so that bench/turns can compare them.
 static void at_fault(struct text *text) {
     while (room(text) > 2) add(text, " ");
-    add(text, "!\n");
+    add(text, ":\n");
 }
 
 static void read_short(struct text *text) {

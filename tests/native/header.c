@@ -1,6 +1,6 @@
 /*
  * The header in every standard that it is for: C from C99 on, and C++. This
- * file is both languages. It prints the words of the refusals 0 to 13, then the
+ * file is both languages. It prints the words of the refusals 0 to 15, then the
  * walk over the names of the printed book; what is to come stands in
  * tests/native-calls.
  */
@@ -16,7 +16,7 @@ int main(void)
     uint64_t result;
     unsigned number;
 
-    for (number = 0; number <= 13; number++)
+    for (number = 0; number <= 15; number++)
         printf("%u %s\n", number, dpb_words(number));
     result = dpb_list(text, sizeof text - 1, DPB_FOLDS, listing, sizeof listing);
     printf("refusal %u line %u\n", dpb_refusal(result), dpb_line(result));

@@ -15,13 +15,14 @@ _Static_assert(DPB_REFUSED_SHORT_AREA == REFUSED_SHORT_AREA && DPB_REFUSED_LONG_
 _Static_assert(DPB_REFUSED_MARK == REFUSED_MARK && DPB_REFUSED_NO_LINE_END == REFUSED_LAST_BYTE, "the text's ends");
 _Static_assert(DPB_REFUSED_LINE == REFUSED_LINE && DPB_REFUSED_NAMES == REFUSED_NAMES && DPB_REFUSED_RULES == REFUSED_RULES, "lines");
 _Static_assert(DPB_REFUSED_ATOMS == REFUSED_ATOMS && DPB_REFUSED_FOLDS == REFUSED_FOLDS, "atoms, folds");
+_Static_assert(DPB_REFUSED_LONG_NAME == REFUSED_LONG_NAME && DPB_REFUSED_BARRED_BYTE == REFUSED_BARRED_BYTE, "sorts of bad lines");
 
 /* The header's two functions on results; walking.c has the others. */
 static void taking_apart(void)
 {
     static const unsigned parts[][2] = {
         {0, 0}, {REFUSED_SHORT_AREA, 0}, {REFUSED_LINE, 3}, {REFUSED_NAMES, LAST_LINE}, {REFUSED_RULES, RULES + 2}, {REFUSED_FOLDS, 0},
-        {REFUSED_LINE, 65535},
+        {REFUSED_LINE, 65535}, {REFUSED_LONG_NAME, 2}, {REFUSED_BARRED_BYTE, LAST_LINE},
     };
 
     for (size_t i = 0; i < COUNT(parts); i++) {

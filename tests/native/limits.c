@@ -25,6 +25,8 @@ static void limit_of_lines(void)
     listed("as many empty lines as can be", t, 8, "DPL 0001 names=0 held=0 folds=8 rounds=1\n");
     t->bytes[t->len - 2] = 'x';
     refused("the last line that can be at fault", t, 8, REFUSED_LINE, LAST_LINE);
+    t->bytes[t->len - 2] = '\r';
+    refused("the last line that can be at fault, a byte that is barred", t, 8, REFUSED_BARRED_BYTE, LAST_LINE);
 }
 
 /* a listing of n0, n1 and so on */
@@ -65,8 +67,8 @@ static void limit_of_name(void)
     listed("longest name", book_of(LONG_NAME ":"), 8, "DPL 0001 names=1 held=1 folds=8 rounds=1\n" LONG_NAME "\n");
     listed("longest name in a body", book_of("a: b " LONG_NAME "/b:/" LONG_NAME ":"), 0,
            "DPL 0001 names=3 held=3 folds=0 rounds=2\na\nb\n" LONG_NAME "\n");
-    refused("name one byte longer", book_of(LONG_NAME "0:"), 8, REFUSED_LINE, 2);
-    refused("name one byte longer in a body", book_of("/a: b " LONG_NAME "0 c"), 8, REFUSED_LINE, 3);
+    refused("name one byte longer", book_of(LONG_NAME "0:"), 8, REFUSED_LONG_NAME, 2);
+    refused("name one byte longer in a body", book_of("/a: b " LONG_NAME "0 c"), 8, REFUSED_LONG_NAME, 3);
 }
 
 static void limit_of_rules(void)

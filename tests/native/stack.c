@@ -110,6 +110,10 @@ static void on_small_stack(const struct small_stack *k, const struct sample *s)
 
 size_t stack(void)
 {
+    static const struct {
+        const char *line;
+        unsigned number;
+    } bad[] = {{"oops", REFUSED_LINE}, {"oops: " LONG_NAME "0", REFUSED_LONG_NAME}, {"oops: a b\r", REFUSED_BARRED_BYTE}};
     struct small_stack k = small_stack();
     struct text *t = marked();
     struct sample s;
@@ -122,11 +126,14 @@ size_t stack(void)
     s = sample("one atom too many on a small stack", t, FOLDS);
     s.want = REFUSED(REFUSED_ATOMS, 0);
     on_small_stack(&k, &s);
-    add(t, "oops\n");
-    /* the mark, three rules a head, the one above, and this line */
-    s = sample("a line at fault on a small stack", t, FOLDS);
-    s.want = REFUSED(REFUSED_LINE, 3 * WITH_NAMES + 3);
-    on_small_stack(&k, &s);
+    for (size_t i = 0, good = t->len; i < COUNT(bad); i++) {
+        t->len = good;
+        add(t, "%s\n", bad[i].line);
+        /* the mark, three rules a head, the one above, and this line */
+        s = sample("a line at fault on a small stack", t, FOLDS);
+        s.want = REFUSED(bad[i].number, 3 * WITH_NAMES + 3);
+        on_small_stack(&k, &s);
+    }
     t = marked();
     add_times(t, (TEXT_BYTES - MARK_BYTES) / 2, "#\n");
     add_times(t, (TEXT_BYTES - MARK_BYTES) % 2, "\n");

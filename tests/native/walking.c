@@ -86,15 +86,21 @@ static void holding(void)
 /* What the words are, header.c prints; here is that every number has some, and each refusal its own. */
 static void words(void)
 {
-    static const unsigned unknown[] = {
-        REFUSED_ILL_FORMED, REFUSED_START_LOST, REFUSED_LONG_WRITTEN, REFUSED_RESERVED_BYTE, REFUSED_UNSETTLED_ENTRY, 13, 255, 65536, ~0u,
+    static const unsigned own[] = {
+        DPB_LISTED, REFUSED_SHORT_AREA, REFUSED_LONG_TEXT, REFUSED_MARK, REFUSED_LAST_BYTE, REFUSED_LINE, REFUSED_NAMES, REFUSED_RULES,
+        REFUSED_ATOMS, REFUSED_FOLDS, REFUSED_LONG_NAME, REFUSED_BARRED_BYTE,
     };
-    const char *none = dpb_words(13);
+    static const unsigned unknown[] = {
+        REFUSED_ILL_FORMED, REFUSED_START_LOST, REFUSED_LONG_WRITTEN, REFUSED_RESERVED_BYTE, REFUSED_UNSETTLED_ENTRY, 255, 65536, ~0u,
+    };
+    const char *none = dpb_words(255);
 
-    for (unsigned i = 0; i <= REFUSED_FOLDS; i++)
-        for (unsigned j = 0; j < i; j++)
-            check(strcmp(dpb_words(i), dpb_words(j)) != 0, "dpb_words",
-                  "expected words of its own for %u, came those of %u", i, j);
+    for (size_t i = 0; i < COUNT(own); i++) {
+        check(strcmp(dpb_words(own[i]), none) != 0, "dpb_words", "expected words for %u", own[i]);
+        for (size_t j = 0; j < i; j++)
+            check(strcmp(dpb_words(own[i]), dpb_words(own[j])) != 0, "dpb_words",
+                  "expected words of its own for %u, came those of %u", own[i], own[j]);
+    }
     for (size_t i = 0; i < COUNT(unknown); i++)
         check(strcmp(dpb_words(unknown[i]), none) == 0, "dpb_words", "expected no words for %u", unknown[i]);
 }

@@ -224,7 +224,8 @@ fn at_a_limit(r: &mut Random) -> Vec<u8> {
     }
     if which == 7 && r.one_in(3) {
         text.pop();
-        text.extend_from_slice(b" :\n");
+        text.extend_from_slice(r.pick(&damage::FAULTS));
+        text.push(b'\n');
     }
     text
 }
@@ -355,8 +356,12 @@ fn soup(r: &mut Random) -> Vec<u8> {
 const SOUP_LINES: [&str; 17] =
     ["a:", "a: b", "\tB :a\t", "#:a b", " #", "a b:", ":", ": a", "a::", "a", " ", "c :\tA  b a", "b:c", "a:b:c", "-._:9", "\r", "a:\r"];
 
+/// Lines with two faults, or with one after bytes that are good.
+const TWO_FAULTS: [&str; 8] = ["a b\r", "a\r:", "a! b", "a:b #", "a:b:\r", "a:\0:", ":!", "a #:"];
+
 fn soup_line(r: &mut Random) -> String {
-    format!("\n{}", r.pick(&SOUP_LINES))
+    let lines: &[&str] = if r.one_in(4) { &TWO_FAULTS } else { &SOUP_LINES };
+    format!("\n{}", r.pick(lines))
 }
 
 // ---------------------------------------------------------------- spelling

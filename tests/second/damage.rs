@@ -4,12 +4,21 @@ use crate::engine::name_byte;
 use crate::figures::{MARK, NAME_BYTES};
 use crate::random::Random;
 
+/// What leaves most lines without a listed form: a colon, a second head, bytes that are barred, a name one byte too long. Where a name byte
+/// stands before, the blank parts them.
+pub const FAULTS: [&[u8]; 8] = [b" :", b" a ", b" \r", b"\r", b" #", b"\0", b"!", &OVERLONG];
+const OVERLONG: [u8; NAME_BYTES + 2] = {
+    let mut bytes = [b'x'; NAME_BYTES + 2];
+    bytes[0] = b' ';
+    bytes
+};
+
 /// One wound of any sort. It may miss, and it may leave a good book.
 pub fn hurt(text: &mut Vec<u8>, r: &mut Random) {
     if text.is_empty() {
         return;
     }
-    match r.below(20) {
+    match r.below(24) {
         0 => flip(text, r),
         1 => overwrite(text, r),
         2..=4 => insert(text, r),
@@ -26,7 +35,9 @@ pub fn hurt(text: &mut Vec<u8>, r: &mut Random) {
         15 => replace(text, b'\n', b"", r),
         16 => replace(text, b':', b"", r),
         17 => replace(text, b' ', b"\t", r),
-        18 => text.extend_from_slice(r.pick(&[b"a".as_slice(), b"a:", b"\n", b"\n\n", b"\r\n", b"#", b"\0"])),
+        18..=19 => respell(text, NAME_BYTES + 1 + r.pick(&[0, 0, 1, NAME_BYTES]), r),
+        20..=21 => faults(text, r),
+        22 => text.extend_from_slice(r.pick(&[b"a".as_slice(), b"a:", b"\n", b"\n\n", b"\r\n", b"#", b"\0"])),
         _ => mark(text, r),
     }
 }
@@ -106,6 +117,20 @@ pub fn respell(text: &mut Vec<u8>, length: usize, r: &mut Random) {
     let end = (start..).find(|&at| !is_name(at)).unwrap_or(start);
     let byte = r.pick(b"q7._-Q");
     text.splice(start..end, vec![byte; length]);
+}
+
+/// One fault in some line after the mark, or two, of which the left one decides.
+fn faults(text: &mut Vec<u8>, r: &mut Random) {
+    let starts: Vec<usize> = places(text, b'\n').iter().map(|at| at + 1).filter(|&start| start < text.len()).collect();
+    if starts.is_empty() {
+        return;
+    }
+    let start = r.pick(&starts);
+    for _ in 0..r.between(1, 2) {
+        let length = text[start..].iter().position(|&byte| byte == b'\n').unwrap_or(text.len() - start);
+        let at = start + r.below(length + 1);
+        text.splice(at..at, r.pick(&FAULTS).iter().copied());
+    }
 }
 
 fn repeat_line(text: &mut Vec<u8>, r: &mut Random) {

@@ -1,8 +1,8 @@
 //! The second engine against the definitions, on books that are small enough for them.
 
 use crate::books;
-use crate::engine::{held, Judged, System};
-use crate::figures::FOLDS;
+use crate::engine::{fault, form, held, Judged, System};
+use crate::figures::{FOLDS, MARK, NAME_BYTES};
 use crate::harness::{Difference, Harness, Lent};
 use crate::literal;
 use crate::random::Random;
@@ -10,6 +10,10 @@ use crate::random::Random;
 /// Names up to which every set of names is tried, and atoms up to which rows are folded.
 const FEW_NAMES: usize = 10;
 const FEW_ATOMS: usize = 100;
+
+/// Bytes up to which every line is tried, after nothing and after long runs of name bytes, and every way on from it.
+const FEW_BYTES: usize = 4;
+const WAY_ON: usize = 2;
 
 /// What the second engine gets wrong against the definitions, taken word for word. A large book is not looked at.
 pub fn fault_of_second(text: &[u8]) -> Option<String> {
@@ -34,8 +38,32 @@ fn fault_of_levels(system: &System) -> Option<String> {
     None
 }
 
+/// The bad lines among all short ones, and the first of them whose fault the second engine gets wrong.
+fn faults() -> (usize, Option<Vec<u8>>) {
+    let ways_on = literal::short_lines(WAY_ON);
+    let mut bad = 0;
+    for last in literal::short_lines(FEW_BYTES) {
+        let long = |head: &str, length: usize| [head.as_bytes(), &vec![b'n'; length], last.as_slice()].concat();
+        let lines = [last.clone(), long("", NAME_BYTES - 1), long("", NAME_BYTES), long("a:", NAME_BYTES - 1), long("a: b ", NAME_BYTES)];
+        for line in lines.into_iter().filter(|line| form(line).is_none()) {
+            bad += 1;
+            if fault(&line) != literal::fault(&line, &ways_on) {
+                return (bad, Some(line));
+            }
+        }
+    }
+    (bad, None)
+}
+
 pub fn run(harness: &mut Harness, seed: u64) -> Result<String, Difference> {
     let mut random = Random::new(seed, 5 << 40);
+    let (bad, wrong) = faults();
+    if let Some(line) = wrong {
+        let (text, lent) = ([MARK, &line, b"\n"].concat(), Lent::usual(0, &mut random));
+        let heard = harness.check_text(&text, lent)?;
+        let what = "a byte that leaves no way on, taken byte after byte".to_string();
+        return Err(Difference::unexpected(&text, lent, &heard, "the second engine", what));
+    }
     let (mut tried, mut folded) = (0, 0);
     for count in 0..12_000 {
         let text = if count % 12 == 0 { books::middling(&mut random) } else { books::small(&mut random) };
@@ -48,6 +76,7 @@ pub fn run(harness: &mut Harness, seed: u64) -> Result<String, Difference> {
         tried += usize::from(judged.read.map_or(false, |book| book.names.len() <= FEW_NAMES));
         folded += usize::from(judged.system.is_some() && judged.atoms <= FEW_ATOMS);
     }
-    let line = format!("the second engine holds the names in every model ({tried} books)");
+    let line = format!("the second engine finds the faults that every short way on leaves ({bad} bad lines)");
+    let line = format!("{line}, holds the names in every model ({tried} books)");
     Ok(format!("{line} and counts rounds as over folded rows ({folded} books, folds 0 to {FOLDS})"))
 }

@@ -1,7 +1,8 @@
 //! The second engine: a rule book from its text to its listing, written from the specification alone.
 //!
-//! It shares no method with rows of words. Names live in a hash map, bodies are lists of numbers, and what is held is found by
-//! counting the conditions that are still open. No row is ever folded: k folds of the "all" rows stand for 2^k steps through them,
+//! It shares no method with rows of words. The form of a line is judged as a whole, and the fault of a bad one is found by trying how its
+//! first bytes could go on. Names live in a hash map, bodies are lists of numbers, and what is held is found by counting the conditions
+//! that are still open. No row is ever folded: k folds of the "all" rows stand for 2^k steps through them,
 //! so one round carries a work list on by at most 2^k levels (`System::rounds` says why that is the same).
 
 use std::collections::HashMap;
@@ -77,6 +78,34 @@ pub fn form(line: &[u8]) -> Option<Line<'_>> {
     }
 }
 
+/// Whether some continuation of a line's first bytes is of a listed form. Blanks and a remark are as they stand, and so is a rule after
+/// each byte from its colon on: what others can lack is a colon alone.
+fn viable(prefix: &[u8]) -> bool {
+    form(prefix).is_some() || form(&[prefix, b":"].concat()).is_some()
+}
+
+/// The number under which a line of no listed form is refused: by the first byte that leaves none possible, or by the line's end. What
+/// begins a viable prefix is viable, so that the prefixes part in two.
+pub fn fault(line: &[u8]) -> u64 {
+    let lengths: Vec<usize> = (1..=line.len()).collect();
+    let longest = lengths.partition_point(|&length| viable(&line[..length]));
+    line.get(longest).map_or(refusal::LINE, |&byte| {
+        let run = line[..=longest].iter().rev().take_while(|&&b| name_byte(b)).count();
+        fault_at(byte, run)
+    })
+}
+
+/// The number by the byte at fault and the length of the run of name bytes that it ends.
+pub fn fault_at(byte: u8, run: usize) -> u64 {
+    if !name_byte(byte) && !blank(byte) && byte != b':' {
+        refusal::BARRED_BYTE
+    } else if run == NAME_BYTES + 1 {
+        refusal::LONG_NAME
+    } else {
+        refusal::LINE
+    }
+}
+
 #[derive(Default)]
 struct Reader {
     book: Book,
@@ -102,7 +131,7 @@ impl Reader {
     /// Takes one line in, or says which number refuses it: first its form, then the rule, then its names from left to right.
     fn take(&mut self, line: &[u8]) -> Result<(), u64> {
         let names = match form(line) {
-            None => return Err(refusal::LINE),
+            None => return Err(fault(line)),
             Some(Line::Nothing) => return Ok(()),
             Some(Line::Rule(names)) => names,
         };

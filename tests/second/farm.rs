@@ -154,14 +154,14 @@ impl Farm<'_> {
     }
 }
 
-/// A remark takes any byte; every other line with a carriage return has no listed form.
+/// A remark takes any byte; every other line that was good is then barred by its carriage return.
 fn after_carriage_returns(text: &[u8], whole: Heard) -> Heard {
     if text.len() > TEXT_BYTES {
         return refusal(number::LONG_TEXT, 0);
     }
     let lines = text.split(|&byte| byte == b'\n');
     let bad = lines.enumerate().find(|(_, line)| line.last() == Some(&b'\r') && line[0] != b'#');
-    bad.map_or(whole, |(before, _)| refusal(number::LINE, before as u64 + 1))
+    bad.map_or(whole, |(before, _)| refusal(number::BARRED_BYTE, before as u64 + 1))
 }
 
 // ---------------------------------------------------------------- the weekly schedule

@@ -17,6 +17,17 @@ pub fn book(rules: &str) -> Vec<u8> {
     text
 }
 
+/// Lines of no listed form, `/` for a line end, with the number that is due for each of them: worked out by hand from the request for
+/// three sorts of bad line. `N` stands for a name of full length, so that `Nn` is one byte too long.
+const BAD_LINES: [(u64, &str); 6] = [
+    (refusal::LINE, "a/a /\tN/N /:/ \t:a/:Nn/: \r/a::/a: :\r/a::Nn/a:b:/a:b c :d/a:N:"),
+    (refusal::LINE, "a b/a\tb:c/a b\r/a b!c:/a Nn/N b:"),
+    (refusal::LONG_NAME, "Nn/Nn:b/ \t Nn :/Nn\r/Nn b:/Nn::/a:Nn/a: b N\tNn /a:Nn b/a:b Nn!/a:Nn:/a:Nn # b/a:NN/Nn:Nn"),
+    (refusal::BARRED_BYTE, " # a/a:b#/a #b:/!x/!:a b/@1/\0/a:b \0 c/\r/\t \r/a\r/a \r/N\r/a!:b/a:\r/a:b\r/a:b \r/a:b N@"),
+    (refusal::BARRED_BYTE, "@Nn:/a:! Nn/a:\0:/a! b"),
+    (refusal::BARRED_BYTE, "a:b,c/a;:/a\u{7f}:/[:/a:`/a:{b/\u{e4}:"),
+];
+
 type Rounds = &'static [(u64, usize)];
 
 /// Rules, count of names, names held in number order, and the rounds for each fold number that the specification gives.
@@ -141,8 +152,8 @@ impl Cases<'_> {
         self.listed(&text, NAMES, &held, &halved(NAMES, 2))?;
         let long = "n".repeat(NAME_BYTES);
         self.listed(&book(&format!("{long}:")), 1, std::slice::from_ref(&long), &[(0, 1), (FOLDS, 1)])?;
-        self.refused(&book(&format!("{long}n:")), refusal::LINE, 2)?;
-        self.refused(&book(&format!("a:/b: {long}n a")), refusal::LINE, 3)?;
+        self.refused(&book(&format!("{long}n:")), refusal::LONG_NAME, 2)?;
+        self.refused(&book(&format!("a:/b: {long}n a")), refusal::LONG_NAME, 3)?;
         // Names with two rules each and as many undefined ones; then one helper more.
         let rules: Vec<String> = (0..ATOMS / 4).map(|i| format!("a{i}:b{i}/a{i}:a{i}")).collect();
         let rules = rules.join("/");
@@ -167,15 +178,29 @@ impl Cases<'_> {
         self.refused(b"DPB 0001\r\n", refusal::MARK, 0)?;
         self.refused(b"DPB 0001\na:", refusal::LAST_BYTE, 0)?;
         self.refused(b"DPB 0001\n:\na:", refusal::LAST_BYTE, 0)?;
-        self.refused(&book("a:\r/b:"), refusal::LINE, 2)?;
-        self.refused(&book("/#\r/a:\r"), refusal::LINE, 4)?;
-        self.refused(&book("a:/ # no remark"), refusal::LINE, 3)?;
+        self.refused(&book("a:\r/b:"), refusal::BARRED_BYTE, 2)?;
+        self.refused(&book("/#\r/a:\r"), refusal::BARRED_BYTE, 4)?;
+        self.refused(&book("a:/ # no remark"), refusal::BARRED_BYTE, 3)?;
         self.expect(&book("a:"), FOLDS + 1, Err((refusal::FOLDS, 0)))?;
         self.expect(b"", FOLDS + 1, Err((refusal::FOLDS, 0)))?;
         self.refused(&vec![b'\n'; TEXT_BYTES + 1], refusal::LONG_TEXT, 0)?;
         self.refused(&vec![b'\n'; TEXT_BYTES], refusal::MARK, 0)?;
         self.expect(&vec![b'\n'; TEXT_BYTES + 1], FOLDS + 1, Err((refusal::LONG_TEXT, 0)))?;
+        self.bad_lines()?;
         self.within_a_line()
+    }
+
+    /// Each in the midst of a book, and as its last line.
+    fn bad_lines(&mut self) -> Result<(), Difference> {
+        let full = "n".repeat(NAME_BYTES);
+        for (number, lines) in BAD_LINES {
+            for line in lines.split('/') {
+                let line = line.replace('N', &full);
+                self.refused(&book(&format!("x:y/{line}/y:")), number, 3)?;
+                self.refused(&book(&format!("#///{line}")), number, 5)?;
+            }
+        }
+        Ok(())
     }
 
     /// Lines downward, and in a line its form, then the rules, then the names.
@@ -184,17 +209,23 @@ impl Cases<'_> {
         let (full, over) = (names(NAMES), names(NAMES + 1));
         self.listed(&book(&format!("n0: {full}")), NAMES, &[], &[(0, 1), (FOLDS, 1)])?;
         self.refused(&book(&format!("/n0: {over}")), refusal::NAMES, 3)?;
-        self.refused(&book(&format!("n0: {over} :")), refusal::LINE, 2)?;
-        self.refused(&book(&format!("n0: {over}/:")), refusal::NAMES, 2)?;
         let rules = |count: usize| vec!["a:"; count].join("/");
         // The mark is line 1: rule i is in line i + 1.
         let (full, last) = (rules(RULES), RULES as u64 + 1);
         self.refused(&book(&full), refusal::ATOMS, 0)?;
         self.refused(&book(&rules(RULES + 1)), refusal::RULES, last + 1)?;
-        self.refused(&book(&format!("{full}/#/b:/:")), refusal::RULES, last + 2)?;
-        self.refused(&book(&format!("{full}/b::")), refusal::LINE, last + 1)?;
         self.refused(&book(&format!("{full}/x: {over}")), refusal::RULES, last + 1)?;
         self.refused(&book(&format!("{}/x: {over}", rules(RULES - 1))), refusal::NAMES, last)?;
+        let overlong = "n".repeat(NAME_BYTES + 1);
+        for (number, fault) in [(refusal::LINE, ":"), (refusal::LONG_NAME, overlong.as_str()), (refusal::BARRED_BYTE, "\r")] {
+            self.refused(&book(&format!("n0: {over} {fault}")), number, 2)?;
+            self.refused(&book(&format!("n0: {over}/a: {fault}")), refusal::NAMES, 2)?;
+            self.refused(&book(&format!("a: {fault}/n0: {over}")), number, 2)?;
+            self.refused(&book(&format!("{full}/b: {fault}")), number, last + 1)?;
+            self.refused(&book(&format!("{full}/x: {over} {fault}")), number, last + 1)?;
+            self.refused(&book(&format!("{full}/#/b:/a: {fault}")), refusal::RULES, last + 2)?;
+            self.refused(&book(&format!("a: {fault}/{full}/a:")), number, 2)?;
+        }
         // The last line that a text has room for.
         let mut text = MARK.to_vec();
         text.resize(TEXT_BYTES - 2, b'\n');

@@ -1,7 +1,39 @@
-//! The specification's definitions, word for word and slow: rows folded as sets, models found by trying every set of names.
-//! They keep the second engine honest on small books.
+//! The specification's definitions, word for word and slow: the fault of a bad line found by every short way on, byte after byte, rows
+//! folded as sets, models found by trying every set of names. They keep the second engine honest on small books.
 
-use crate::engine::{Book, System};
+use crate::engine::{fault_at, form, name_byte, Book, System};
+use crate::figures::refusal;
+
+/// One byte of each sort that a line can have, and more than one of some.
+const SORTS: &[u8] = b"a0 \t:#\r";
+
+/// Every line of up to that many bytes out of these sorts.
+pub fn short_lines(length: usize) -> Vec<Vec<u8>> {
+    let mut lines = vec![Vec::new()];
+    let mut first = 0;
+    for _ in 0..length {
+        let end = lines.len();
+        for shorter in first..end {
+            for &byte in SORTS {
+                lines.push([lines[shorter].as_slice(), &[byte]].concat());
+            }
+        }
+        first = end;
+    }
+    lines
+}
+
+/// The number of a line of no listed form: each byte is looked at in turn, whether one of the ways on leads from it to a listed form.
+pub fn fault(line: &[u8], ways_on: &[Vec<u8>]) -> u64 {
+    let mut run = 0;
+    for (at, &byte) in line.iter().enumerate() {
+        run = if name_byte(byte) { run + 1 } else { 0 };
+        if !ways_on.iter().any(|way| form(&[&line[..=at], way].concat()).is_some()) {
+            return fault_at(byte, run);
+        }
+    }
+    refusal::LINE
+}
 
 pub type Rows = Vec<Vec<bool>>;
 

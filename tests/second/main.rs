@@ -4,6 +4,7 @@
 //!
 //! The seed may also come from the environment as DPB_SEED. `--only` draws one random book again, by its number.
 
+mod awkward;
 mod books;
 mod damage;
 mod definitions;
@@ -110,9 +111,10 @@ fn save(harness: &Harness, name: &str, text: &[u8]) {
 
 type Test = fn(&mut Harness, u64) -> Result<String, Difference>;
 
-const TESTS: [(&str, Test); 5] = [
+const TESTS: [(&str, Test); 6] = [
     ("definitions", definitions::run),
     ("known books", known::run),
+    ("awkward bytes", awkward::run),
     ("the hung job", farm::hung_job),
     ("the pipe", farm::pipe),
     ("the weekly schedule", farm::weekly_schedule),

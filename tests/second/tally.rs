@@ -45,7 +45,7 @@ impl Tally {
             (number == 0 && lent.folds == FOLDS, number == refusal::FOLDS && lent.folds == FOLDS + 1),
             (
                 number == 0 && longest == NAME_BYTES,
-                number == refusal::LINE && heard.map_or_else(|refusal| one_byte_too_long(text, refusal), |()| false),
+                number == refusal::LONG_NAME && heard.map_or_else(|refusal| one_byte_too_long(text, refusal), |()| false),
             ),
             (number == refusal::SHORT_AREA && lent.area == LISTING_BYTES - 1, number == 0 && lent.area == LISTING_BYTES),
         ];
