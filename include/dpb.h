@@ -25,7 +25,7 @@ extern "C" {
  * The release of this engine, as CHANGELOG.md counts them. The 0001 in a book's
  * mark and in a listing's head line is another thing: the version of the form.
  */
-#define DPB_RELEASE "2.1.0"
+#define DPB_RELEASE "3.0.0"
 
 /* Limits. At most this many: */
 #define DPB_TEXT_BYTES 16384 /* bytes in a book, its mark line included */
@@ -48,24 +48,32 @@ extern "C" {
 /*
  * Refusals. A book is listed whole or refused whole, under its first cause:
  * first 1, 2, 9, 3 and 4 are judged, in this order; then the lines from the top,
- * and in one line 5, then 7, then 6; at last 8. So 1, 2 and 9 are returned
- * without a look at the text.
+ * and in one line its form (5, 13 or 14), then 7, then 6; at last 8. So 1, 2 and
+ * 9 are returned without a look at the text.
  *
- * A line comes with 5, 6 and 7 only; the mark is line 1. The numbers 10, 11, 12,
- * 20 and 21 belong to calls that C does not have: this call never returns them.
- * 20 and 21 are of a folding table, which a site can lend in Rattle; this call
- * is lent none and always goes by the letters A to Z and a to z.
+ * 5, 13 and 14 share one place in this order: each is a line of no listed form,
+ * and its leftmost fault says which. The fault is the first byte after which no
+ * way on is left that would make the line blank, a remark or a rule; of a name
+ * that is too long it is the 33rd byte. Where there is no such byte the colon is
+ * missing, which only the line's end shows: 5. docs/FORMAT.md has cases.
+ *
+ * A line comes with 5, 6, 7, 13 and 14 only; the mark is line 1. The numbers 10,
+ * 11, 12, 20 and 21 belong to calls that C does not have: this call never
+ * returns them. 20 and 21 are of a folding table, which a site can lend in
+ * Rattle; this call is lent none: its letters are always A to Z and a to z.
  */
-#define DPB_LISTED 0              /* none: the listing is written */
-#define DPB_REFUSED_SHORT_AREA 1  /* the lent area is too short: listing_len is under 4,608 */
-#define DPB_REFUSED_LONG_TEXT 2   /* text over 16,384 bytes: shorten remarks, or split the book */
-#define DPB_REFUSED_MARK 3        /* the first nine bytes are not "DPB 0001\n", or there are fewer */
-#define DPB_REFUSED_NO_LINE_END 4 /* the last byte is not 0x0A: end the last line too */
-#define DPB_REFUSED_LINE 5        /* line of no listed form: not blank, no remark, no rule */
-#define DPB_REFUSED_NAMES 6       /* the line has the 129th name */
-#define DPB_REFUSED_RULES 7       /* the line is the 257th rule */
-#define DPB_REFUSED_ATOMS 8       /* over 256 atoms: give fewer names several rules */
-#define DPB_REFUSED_FOLDS 9       /* folds over 8 */
+#define DPB_LISTED 0               /* none: the listing is written */
+#define DPB_REFUSED_SHORT_AREA 1   /* the lent area is too short: listing_len is under 4,608 */
+#define DPB_REFUSED_LONG_TEXT 2    /* text over 16,384 bytes: shorten remarks, or split the book */
+#define DPB_REFUSED_MARK 3         /* the first nine bytes are not "DPB 0001\n", or there are fewer */
+#define DPB_REFUSED_NO_LINE_END 4  /* the last byte is not 0x0A: end the last line too */
+#define DPB_REFUSED_LINE 5         /* line of no listed form, and neither 13 nor 14: look for a missing colon */
+#define DPB_REFUSED_NAMES 6        /* the line has the 129th name */
+#define DPB_REFUSED_RULES 7        /* the line is the 257th rule */
+#define DPB_REFUSED_ATOMS 8        /* over 256 atoms: give fewer names several rules */
+#define DPB_REFUSED_FOLDS 9        /* folds over 8 */
+#define DPB_REFUSED_LONG_NAME 13   /* line of no listed form, at the 33rd byte of a run of name bytes */
+#define DPB_REFUSED_BARRED_BYTE 14 /* line of no listed form, at a byte that is no name byte, blank or colon */
 
 /*
  * dpb_list: lists a book.
@@ -115,7 +123,7 @@ extern "C" {
 uint64_t dpb_list(const uint8_t *text, size_t text_len, uint64_t folds,
                   uint8_t *listing, size_t listing_len);
 
-/* The refusal in a result of dpb_list, 1 to 9; 0 where the book was listed. */
+/* The refusal in a result of dpb_list, 1 to 9, 13 or 14; 0 where the book was listed. */
 static inline unsigned dpb_refusal(uint64_t result)
 {
     return (unsigned)(result >> 16);
@@ -147,7 +155,8 @@ static inline const char *dpb_words(unsigned refusal)
     case DPB_REFUSED_NO_LINE_END:
         return "the last line has no line end: end it, and look whether the text was cut off";
     case DPB_REFUSED_LINE:
-        return "not a rule, a remark or an empty line: look for a missing colon, a carriage return, an accent, a comma";
+        return "not a rule, a remark or an empty line: look for a missing colon, two colons, "
+               "no name or two names before the colon";
     case DPB_REFUSED_NAMES:
         return "this line has the 129th name: look for a name spelt in two ways, or split the book";
     case DPB_REFUSED_RULES:
@@ -157,6 +166,10 @@ static inline const char *dpb_words(unsigned refusal)
                "give fewer names several rules";
     case DPB_REFUSED_FOLDS:
         return "over 8 folds: ask for 0 to 8";
+    case DPB_REFUSED_LONG_NAME:
+        return "a name of over 32 bytes: shorten it, or look for a blank or a colon left out";
+    case DPB_REFUSED_BARRED_BYTE:
+        return "a byte that no rule has: look for a carriage return, an accent, a comma, a # that is not first";
     default:
         return "refused, under a number that this release has no words for";
     }
