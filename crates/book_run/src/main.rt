@@ -1,5 +1,7 @@
 // Reads each book that an argument names, between marks past the stated sizes, and prints what was answered and left; writes the
 // tables of a book that is accepted, looks its names up and reads the text again. Then tables and areas spoilt in one place each.
+#![tactic(auto)]
+
 mod spoilt;
 mod whole;
 

@@ -1,4 +1,6 @@
 // A checksum of an area, so that a test program can print what a call left in every entry of it. The three widths have the same text.
+#![tactic(auto)]
+
 ghost use Rattle.std.specs.Prelude.{◌≡◌};
 ghost use Rattle.checksum.specs.Total.{mixed, total};
 

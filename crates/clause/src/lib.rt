@@ -1,4 +1,6 @@
 // The rule that a line says, found in one pass over its bytes and handed back as a value.
+#![tactic(auto)]
+
 ghost use Rattle.std.specs.Prelude.{◌≡◌, true, false, [], ◌∷◌, ℕ, ◌<◌, length, drop, replicate};
 ghost use Rattle.limits.specs.Book.{body_words, name_area};
 ghost use Rattle.grammar.specs.Bytes.{line_end, Bytes, name_byte, letters};
@@ -54,7 +56,7 @@ fn word_fault(text: &[u8], table: &[u8], at: usize, word: Word) -> usize
 }
 
 // A name's number where there is room for it, and how many names there are then.
-#[derive(Drop)]
+#[derive(Clone, Copy)]
 struct Met {
     pub room: bool,
     pub number: usize,
@@ -164,7 +166,7 @@ fn meet_head(
 }
 
 // How many names there are, and whether each found room.
-#[derive(Drop)]
+#[derive(Clone, Copy)]
 struct Joined {
     pub room: bool,
     pub names: usize,
@@ -235,7 +237,7 @@ fn join(
 
 // What is found in a line: the number of its fault, 0 for none, and the cursor moved on; the head's number, and how many names there are,
 // where there was room for them.
-#[derive(Drop)]
+#[derive(Clone, Copy)]
 pub struct Found {
     pub fault: usize,
     pub cursor: Cursor,

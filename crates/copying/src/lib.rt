@@ -1,4 +1,6 @@
 // Bytes copied into an area.
+#![tactic(auto)]
+
 ghost use Rattle.std.specs.Prelude.{◌≡◌, ◌+◌, ◌≤◌, length};
 ghost use Rattle.areas.specs.Area.{put};
 

@@ -1,4 +1,6 @@
 // The call for a C host. include/dpb.h is its header.
+#![tactic(auto)]
+
 ghost use Rattle.std.specs.Prelude.{◌≡◌};
 ghost use Rattle.grammar.specs.Letters.{our_table};
 ghost use Rattle.hosting.specs.Call.{host_call};

@@ -1,5 +1,7 @@
 // The lister: reads a book from standard input and prints its listing, or the line of its refusal. What is printed comes from the crate
 // hosted; here is only reading and writing.
+#![tactic(auto)]
+
 use libc::{STDERR_FILENO, STDIN_FILENO, STDOUT_FILENO};
 use limits::Book;
 

@@ -1,4 +1,6 @@
 // A book listed in areas of its own, and what the lister prints of it.
+#![tactic(auto)]
+
 ghost use Rattle.std.specs.Prelude.{◌≡◌};
 ghost use Rattle.grammar.specs.Bytes.{our_letters, letters};
 ghost use Rattle.grammar.specs.Letters.{our_table};
@@ -12,7 +14,7 @@ use limits::Book;
 pub mod parts;
 
 // The number of a refusal with its line, 0 for none, and where the text of the listing ends, 0 for a refusal.
-#[derive(Drop)]
+#[derive(Clone, Copy)]
 pub struct Verdict {
     pub number: usize,
     pub line: usize,

@@ -1,1 +1,2 @@
 // The books that document 01 settles: mathematics only.
+#![tactic(auto)]

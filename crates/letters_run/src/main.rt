@@ -1,5 +1,7 @@
 // Books under folding tables that are not ours, as files of cases bring them: read, solved, written and read again, between marks past the stated
 // sizes; what is answered and left is printed. Then tables changed in one entry each, and what the calls answer; and our own table, as it is made.
+#![tactic(auto)]
+
 mod calls;
 mod cases;
 mod ours;

@@ -2,6 +2,8 @@
 // reader is called with `s`, a table that is too short, judged no further; `l`, a table refused for its last entry, which is judged whole and with
 // which nothing is read; `w`, a table that passes, with which the book below is read whole. With `f` an area is filled with our letters, with `e`
 // entry by entry.
+#![tactic(auto)]
+
 use limits::Book;
 use scan::table::{fill, letter};
 use trial::print;

@@ -1,4 +1,6 @@
 // The name area: finding a word among the names through an index, and adding a new one.
+#![tactic(auto)]
+
 pub mod look_up;
 
 ghost use Rattle.std.specs.Prelude.{◌≡◌, ◌+◌, ◌*◌, ◌<◌, ◌≤◌, length, get_or, set};

@@ -1,4 +1,6 @@
 // The book type: every limit of a book, once, and where the parts of an area begin. The numbers of refusals.
+#![tactic(auto)]
+
 ghost use Rattle.std.specs.Prelude.{◌≡◌, ◌*◌, ◌/◌, ◌%◌, ◌≤◌};
 ghost use Rattle.limits.specs.Book.{text_bytes, names, name_bytes, rules, atoms, folds, word_bits};
 ghost use Rattle.limits.specs.Book.{row_words, body_words, letter_bytes, listing_bytes, name_area, body_area, row_area};
@@ -37,20 +39,20 @@ impl Book {
 
     // Does nothing: its contract ties each constant to the number of specs/.
     pub fn limits()
-        ensures* text { do ⌜ (← (⟦Book::TEXT_BYTES⟧).entry) ≡ text_bytes ⌝ }
-        ensures* names { do ⌜ (← (⟦Book::NAMES⟧).entry) ≡ names ⌝ }
-        ensures* spelling { do ⌜ (← (⟦Book::NAME_BYTES⟧).entry) ≡ name_bytes ⌝ }
-        ensures* rules { do ⌜ (← (⟦Book::RULES⟧).entry) ≡ rules ⌝ }
-        ensures* atoms { do ⌜ (← (⟦Book::ATOMS⟧).entry) ≡ atoms ⌝ }
-        ensures* folds { do ⌜ (← (⟦Book::FOLDS⟧).entry) ≡ folds ⌝ }
-        ensures* word { do ⌜ (← (⟦Book::WORD_BITS⟧).entry) ≡ word_bits ⌝ }
-        ensures* row { do ⌜ (← (⟦Book::ROW_WORDS⟧).entry) ≡ row_words ⌝ }
-        ensures* body { do ⌜ (← (⟦Book::BODY_WORDS⟧).entry) ≡ body_words ⌝ }
-        ensures* letters { do ⌜ (← (⟦Book::LETTER_BYTES⟧).entry) ≡ letter_bytes ⌝ }
-        ensures* listing { do ⌜ (← (⟦Book::LISTING_BYTES⟧).entry) ≡ listing_bytes ⌝ }
-        ensures* spellings { do ⌜ (← (⟦Book::NAME_AREA⟧).entry) ≡ name_area ⌝ }
-        ensures* bodies { do ⌜ (← (⟦Book::BODY_AREA⟧).entry) ≡ body_area ⌝ }
-        ensures* rows { do ⌜ (← (⟦Book::ROW_AREA⟧).entry) ≡ row_area ⌝ }
+        ensures text { Book.TEXT_BYTES ≡ text_bytes }
+        ensures names { Book.NAMES ≡ names }
+        ensures spelling { Book.NAME_BYTES ≡ name_bytes }
+        ensures rules { Book.RULES ≡ rules }
+        ensures atoms { Book.ATOMS ≡ atoms }
+        ensures folds { Book.FOLDS ≡ folds }
+        ensures word { Book.WORD_BITS ≡ word_bits }
+        ensures row { Book.ROW_WORDS ≡ row_words }
+        ensures body { Book.BODY_WORDS ≡ body_words }
+        ensures letters { Book.LETTER_BYTES ≡ letter_bytes }
+        ensures listing { Book.LISTING_BYTES ≡ listing_bytes }
+        ensures spellings { Book.NAME_AREA ≡ name_area }
+        ensures bodies { Book.BODY_AREA ≡ body_area }
+        ensures rows { Book.ROW_AREA ≡ row_area }
     {}
 
     // The first byte of name i in the name area.
@@ -131,21 +133,21 @@ impl Refusal {
 
     // Does nothing: its contract ties each constant to its number there.
     pub fn numbers()
-        ensures* area { do ⌜ (← (⟦Refusal::SHORT_AREA⟧).entry) ≡ 1 ⌝ }
-        ensures* text { do ⌜ (← (⟦Refusal::LONG_TEXT⟧).entry) ≡ 2 ⌝ }
-        ensures* mark { do ⌜ (← (⟦Refusal::MARK⟧).entry) ≡ 3 ⌝ }
-        ensures* last { do ⌜ (← (⟦Refusal::LAST_BYTE⟧).entry) ≡ 4 ⌝ }
-        ensures* line { do ⌜ (← (⟦Refusal::LINE⟧).entry) ≡ 5 ⌝ }
-        ensures* names { do ⌜ (← (⟦Refusal::NAMES⟧).entry) ≡ 6 ⌝ }
-        ensures* rules { do ⌜ (← (⟦Refusal::RULES⟧).entry) ≡ 7 ⌝ }
-        ensures* atoms { do ⌜ (← (⟦Refusal::ATOMS⟧).entry) ≡ 8 ⌝ }
-        ensures* folds { do ⌜ (← (⟦Refusal::FOLDS⟧).entry) ≡ 9 ⌝ }
-        ensures* formed { do ⌜ (← (⟦Refusal::ILL_FORMED⟧).entry) ≡ 10 ⌝ }
-        ensures* start { do ⌜ (← (⟦Refusal::START_LOST⟧).entry) ≡ 11 ⌝ }
-        ensures* written { do ⌜ (← (⟦Refusal::LONG_WRITTEN⟧).entry) ≡ 12 ⌝ }
-        ensures* spelt { do ⌜ (← (⟦Refusal::LONG_NAME⟧).entry) ≡ 13 ⌝ }
-        ensures* barred { do ⌜ (← (⟦Refusal::BARRED_BYTE⟧).entry) ≡ 14 ⌝ }
-        ensures* reserved { do ⌜ (← (⟦Refusal::RESERVED_BYTE⟧).entry) ≡ 20 ⌝ }
-        ensures* unsettled { do ⌜ (← (⟦Refusal::UNSETTLED_ENTRY⟧).entry) ≡ 21 ⌝ }
+        ensures area { Refusal.SHORT_AREA ≡ 1 }
+        ensures text { Refusal.LONG_TEXT ≡ 2 }
+        ensures mark { Refusal.MARK ≡ 3 }
+        ensures last { Refusal.LAST_BYTE ≡ 4 }
+        ensures line { Refusal.LINE ≡ 5 }
+        ensures names { Refusal.NAMES ≡ 6 }
+        ensures rules { Refusal.RULES ≡ 7 }
+        ensures atoms { Refusal.ATOMS ≡ 8 }
+        ensures folds { Refusal.FOLDS ≡ 9 }
+        ensures formed { Refusal.ILL_FORMED ≡ 10 }
+        ensures start { Refusal.START_LOST ≡ 11 }
+        ensures written { Refusal.LONG_WRITTEN ≡ 12 }
+        ensures spelt { Refusal.LONG_NAME ≡ 13 }
+        ensures barred { Refusal.BARRED_BYTE ≡ 14 }
+        ensures reserved { Refusal.RESERVED_BYTE ≡ 20 }
+        ensures unsettled { Refusal.UNSETTLED_ENTRY ≡ 21 }
     {}
 }

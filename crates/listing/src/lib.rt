@@ -1,4 +1,6 @@
 // The listing: one head line, then each held name in number order.
+#![tactic(auto)]
+
 ghost use Rattle.std.specs.Prelude.{◌≡◌, ◌+◌, ◌≤◌, length};
 ghost use Rattle.limits.specs.Book.{names, atoms, folds as foldLimit, row_words, name_area, listing_bytes};
 ghost use Rattle.tables.specs.Areas.{names_in};
@@ -12,7 +14,7 @@ pub mod names;
 pub mod number;
 
 // How many names are held, and where the text ends.
-#[derive(Drop)]
+#[derive(Clone, Copy)]
 pub struct Written {
     pub held: usize,
     pub end: usize,

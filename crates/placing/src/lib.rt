@@ -1,4 +1,6 @@
 // The rows, the start set and c of a program, its rules placed one by one.
+#![tactic(auto)]
+
 ghost use Rattle.std.specs.Prelude.{◌≡◌, true, ◌*◌, ◌<◌, ◌≤◌, length};
 ghost use Rattle.limits.specs.Book.{rules, atoms, word_bits, row_words, body_words, body_area, row_area};
 ghost use Rattle.sets.specs.Set.{pick, exists, only, union, empty_set};

@@ -1,4 +1,6 @@
 // The public call of the plain route: rounds over the rule tables, from the empty set.
+#![tactic(auto)]
+
 ghost use Rattle.std.specs.Prelude.{◌≡◌, ℕ, ◌<◌, ◌≤◌, length, get_or};
 ghost use Rattle.limits.specs.Book.{names, rules, row_words};
 ghost use Rattle.sets.specs.Set.{union};
@@ -10,7 +12,7 @@ ghost use Rattle.plain.specs.Step.{heads_from};
 use limits::{Book, Refusal};
 
 // The number of a refusal, 0 for none; then the held names and the rounds made.
-#[derive(Drop)]
+#[derive(Clone, Copy)]
 pub struct Answer {
     pub number: usize,
     pub held: usize,

@@ -1,1 +1,2 @@
 // Definite programs, and-or systems, standardising: mathematics only, in specs/ and proofs/.
+#![tactic(auto)]

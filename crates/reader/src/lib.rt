@@ -1,4 +1,6 @@
 // The public call that reads a book into its tables, in one pass over the text.
+#![tactic(auto)]
+
 ghost use Rattle.std.specs.Prelude.{◌≡◌, true, false, List, [], ◌+◌, ◌*◌, ◌<◌, ◌≤◌, length, drop};
 ghost use Rattle.limits.specs.Book.{text_bytes, names, name_bytes, rules, body_words, name_area, body_area};
 ghost use Rattle.areas.specs.Area.{part, put, cleared};
@@ -20,7 +22,7 @@ use rows::clear::{clear_tail8, clear_tail16, clear_tail64};
 use scan::cursor::{Cursor, Word};
 
 // What a call returns: the number of the refusal with its line, 0 for none, and how many names and rules there are.
-#[derive(Drop)]
+#[derive(Clone, Copy)]
 pub struct Answer {
     pub number: usize,
     pub line: usize,
@@ -58,7 +60,7 @@ fn refused(number: usize, line: usize) -> Answer
 }
 
 // Where reading stands: the cursor before a line, and how many names and rules there are above it.
-#[derive(Drop)]
+#[derive(Clone, Copy)]
 struct Reading {
     pub cursor: Cursor,
     pub names: usize,
@@ -66,7 +68,7 @@ struct Reading {
 }
 
 // What a line comes to: the cause for which it is refused, 0 for none, and where reading stands then, behind the line or still before it.
-#[derive(Drop)]
+#[derive(Clone, Copy)]
 struct Step {
     pub cause: usize,
     pub after: Reading,

@@ -1,4 +1,6 @@
 // The public call that makes the rounds over rows, from a start set, and its work without the tests.
+#![tactic(auto)]
+
 ghost use Rattle.std.specs.Prelude.{◌≡◌, true, ◌<◌, ◌≤◌, length};
 ghost use Rattle.limits.specs.Book.{atoms, row_words};
 ghost use Rattle.systems.specs.Rows.{below};
@@ -10,7 +12,7 @@ ghost use Rattle.rounds.specs.Step.{next_set, RoundsReady};
 use limits::{Book, Refusal};
 
 // The number of a refusal, 0 for none, and the rounds made.
-#[derive(Drop)]
+#[derive(Clone, Copy)]
 pub struct Answer {
     pub number: usize,
     pub rounds: usize,

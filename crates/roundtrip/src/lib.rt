@@ -1,1 +1,2 @@
 // Writing tables and reading the text again: mathematics only.
+#![tactic(auto)]

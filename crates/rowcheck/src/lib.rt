@@ -1,4 +1,6 @@
 // Whether rows keep their atom count.
+#![tactic(auto)]
+
 ghost use Rattle.std.specs.Prelude.{◌≡◌, ◌≤◌, length};
 ghost use Rattle.limits.specs.Book.{row_area};
 ghost use Rattle.systems.specs.Fold.{formed_all};

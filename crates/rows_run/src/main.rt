@@ -1,4 +1,6 @@
 // Runs the row functions on rows of three words in a larger area with marks around them, and prints what they find.
+#![tactic(auto)]
+
 ghost use Rattle.std.specs.Prelude.{◌+◌, ◌*◌, ◌^◌, ◌<◌, ◌≤◌, length};
 ghost use Rattle.limits.specs.Book.{word_bits};
 

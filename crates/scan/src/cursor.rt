@@ -11,14 +11,14 @@ ghost use Rattle.scan.specs.Places.{past_at, name_folded};
 use crate::table::fold;
 use limits::Book;
 
-#[derive(Drop)]
+#[derive(Clone, Copy)]
 pub struct Cursor {
     pub at: usize,
     pub line: usize,
 }
 
 // A run of name bytes: its end, and the bucket of its folded bytes.
-#[derive(Drop)]
+#[derive(Clone, Copy)]
 pub struct Word {
     pub end: usize,
     pub bucket: usize,
@@ -51,11 +51,11 @@ impl Cursor {
 
     // Does nothing: its contract ties each constant to the byte or bytes of the grammar.
     pub fn bytes()
-        ensures* space { do ⌜ (← (⟦Cursor::SPACE⟧).entry) ≡ space ⌝ }
-        ensures* end { do ⌜ (← (⟦Cursor::LINE_END⟧).entry) ≡ line_end ⌝ }
-        ensures* colon { do ⌜ (← (⟦Cursor::COLON⟧).entry) ≡ colon ⌝ }
-        ensures* hash { do ⌜ (← (⟦Cursor::HASH⟧).entry) ≡ hash ⌝ }
-        ensures* size { do ⌜ (← (⟦Cursor::MARK_BYTES⟧).entry) ≡ length mark ⌝ }
+        ensures space { Cursor.SPACE ≡ space }
+        ensures end { Cursor.LINE_END ≡ line_end }
+        ensures colon { Cursor.COLON ≡ colon }
+        ensures hash { Cursor.HASH ≡ hash }
+        ensures size { Cursor.MARK_BYTES ≡ length mark }
     {}
 
     // The mark: its contract ties the constant to the grammar's.

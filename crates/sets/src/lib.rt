@@ -1,1 +1,2 @@
 // Finite sets and monotone steps on them: mathematics only, in specs/ and proofs/.
+#![tactic(auto)]

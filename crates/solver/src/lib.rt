@@ -1,4 +1,6 @@
 // The public call that solves a book: from text to listing; and its work in areas that may be known to be clear.
+#![tactic(auto)]
+
 ghost use Rattle.std.specs.Prelude.{◌≡◌, true};
 ghost use Rattle.limits.specs.Book.{row_area};
 ghost use Rattle.areas.specs.Area.{Clear};
@@ -14,7 +16,7 @@ use limits::{Book, Refusal};
 pub mod run;
 
 // The number of a refusal with its line, 0 for none; then how many names, atoms, names held and rounds there are, c and h.
-#[derive(Drop)]
+#[derive(Clone, Copy)]
 pub struct Answer {
     pub number: usize,
     pub line: usize,
@@ -27,7 +29,7 @@ pub struct Answer {
 }
 
 // The answer, and where the text of the listing ends, 0 for a refusal.
-#[derive(Drop)]
+#[derive(Clone, Copy)]
 pub struct Solved {
     pub answer: Answer,
     pub end: usize,

@@ -6,7 +6,7 @@ ghost use Rattle.tables.specs.Areas.{program_in};
 ghost use Rattle.solver.specs.Run.{RunReady, run_tables};
 
 // The number of a refusal, 0 for none; then the atoms, the rounds, c and h.
-#[derive(Drop)]
+#[derive(Clone, Copy)]
 pub struct Run {
     pub number: usize,
     pub atoms: usize,

@@ -1,4 +1,6 @@
 // Solves each book that an argument names and takes it the plain route, and prints what is answered and left. Then calls with areas too short.
+#![tactic(auto)]
+
 mod books;
 mod calls;
 mod many;

@@ -1,5 +1,7 @@
 // Standardises, folds and runs each book that an argument names, between marks past the stated sizes, and prints what is answered and left.
 // Then the calls on tables and rows that are spoilt, short or of no book, as files of cases give them.
+#![tactic(auto)]
+
 mod areas;
 mod books;
 mod calls;

@@ -1,4 +1,6 @@
 // The public call that standardises tables, and its work without the tests.
+#![tactic(auto)]
+
 ghost use Rattle.std.specs.Prelude.{◌≡◌, true};
 ghost use Rattle.limits.specs.Book.{row_area};
 ghost use Rattle.areas.specs.Area.{Clear};
@@ -9,7 +11,7 @@ ghost use Rattle.standard.specs.Short.{short_standard};
 use limits::{Book, Refusal};
 
 // The number of a refusal, 0 for none; then the atoms, c and h.
-#[derive(Drop)]
+#[derive(Clone, Copy)]
 pub struct Answer {
     pub number: usize,
     pub atoms: usize,

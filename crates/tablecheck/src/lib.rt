@@ -1,4 +1,6 @@
 // Whether tables are in order: names, unused rows, and numbering by first appearance.
+#![tactic(auto)]
+
 ghost use Rattle.std.specs.Prelude.{◌≡◌, ◌≤◌, length};
 ghost use Rattle.limits.specs.Book.{name_area, rules, body_area};
 ghost use Rattle.grammar.specs.Letters.{FoldTable};

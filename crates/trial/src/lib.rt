@@ -1,4 +1,6 @@
 // What the test programs share: the files that their arguments name and the lines of such a file, the areas that they lend, and what they print.
+#![tactic(auto)]
+
 pub mod areas;
 pub mod files;
 pub mod lines;

@@ -1,4 +1,6 @@
 // The public call that folds rows, each fold from the rows before it, by turns into the spare and back; and its work without the tests.
+#![tactic(auto)]
+
 ghost use Rattle.std.specs.Prelude.{◌≡◌, true, ◌&&◌, [], ◌+◌, ◌*◌, ◌<◌, ◌≤◌, length};
 ghost use Rattle.limits.specs.Book.{atoms, folds, word_bits, row_words, row_area};
 ghost use Rattle.sets.specs.Set.{exists, union};

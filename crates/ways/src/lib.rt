@@ -1,4 +1,6 @@
 // What is asked of the rule tables before any row is written: whether they are in order, which names have several rules, and how many rules are theirs.
+#![tactic(auto)]
+
 ghost use Rattle.std.specs.Prelude.{◌≡◌, ℕ, ◌<◌, ◌≤◌, length, get_or};
 ghost use Rattle.limits.specs.Book.{names, rules, body_words, body_area};
 ghost use Rattle.sets.specs.Set.{pick, count};

@@ -1,1 +1,2 @@
 // Words as sets of bits and rows of words as sets of atoms: laws only, in specs/ and proofs/.
+#![tactic(auto)]

@@ -1,4 +1,6 @@
 // The public call that writes tables as text.
+#![tactic(auto)]
+
 ghost use Rattle.std.specs.Prelude.{◌≡◌};
 ghost use Rattle.tables.specs.Writing.{write_call};
 ghost use Rattle.writer.specs.Short.{short_write};
@@ -9,7 +11,7 @@ pub mod measure;
 pub mod put;
 
 // The number of a refusal, 0 for none, and the size of the text.
-#[derive(Drop)]
+#[derive(Clone, Copy)]
 pub struct Written {
     pub number: usize,
     pub size: usize,
