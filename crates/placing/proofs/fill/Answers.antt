@@ -51,8 +51,8 @@ place-requires c =
         let t = c.loop-j-test.true in
         let housed =
     ⊎_elim
-    (λ w. with_helper ready c.loop-j.invariant t c.member.ensures w.0.taken w.2.ensures w.3.ensures w.6 w.7 w.8)
-    (λ w. without_helper ready c.loop-j.invariant t c.member.ensures w.0.left w.1 w.2 w.3) c.if-member.branch-raw
+    (λ w. with_helper ready c.loop-j.invariant t c.member.ensures w.if-member.true w.row_at.ensures w.insert.ensures w.any-is w.helper-is w.home-is)
+    (λ w. without_helper ready c.loop-j.invariant t c.member.ensures w.if-member.false w.any-is w.helper-is w.home-is) c.if-member.branch-raw
     in
     (omega (arith, few_rules ready), home_small ready c.loop-j.invariant t housed, search rules, search rules, search rules)
 
@@ -65,11 +65,11 @@ loop-j-preserved c =
         let t = c.loop-j-test.true in
         let housed =
     ⊎_elim
-    (λ w. with_helper ready c.loop-j.invariant t c.member.ensures w.0.taken w.2.ensures w.3.ensures w.6 w.7 w.8)
-    (λ w. without_helper ready c.loop-j.invariant t c.member.ensures w.0.left w.1 w.2 w.3) c.if-member.branch-raw
+    (λ w. with_helper ready c.loop-j.invariant t c.member.ensures w.if-member.true w.row_at.ensures w.insert.ensures w.any-is w.helper-is w.home-is)
+    (λ w. without_helper ready c.loop-j.invariant t c.member.ensures w.if-member.false w.any-is w.helper-is w.home-is) c.if-member.branch-raw
     in
-        ⊎_elim (λ w. placed_body ready c.loop-j.invariant t housed c.place.ensures.body c.place.ensures.all c.place.ensures.model w.0.taken w.1)
-    (λ w. placed_fact ready c.loop-j.invariant t housed c.place.ensures.body c.place.ensures.all c.place.ensures.model w.0.left w.1) c.if-place.branch-raw
+        ⊎_elim (λ w. placed_body ready c.loop-j.invariant t housed c.place.ensures.body c.place.ensures.all c.place.ensures.model w.if-place.true w.c-is)
+    (λ w. placed_fact ready c.loop-j.invariant t housed c.place.ensures.body c.place.ensures.all c.place.ensures.model w.if-place.false w.1) c.if-place.branch-raw
 
 pub returns : goal.returns
 returns c =  placed_all c.requires c.loop-j.invariant c.loop-j-test.false

@@ -21,8 +21,8 @@ loop-j-preserved c =
     let q =
     step_length _ c.args.v.now c.args.next.now c.if-within.next (c.loop-j.j + 1) c.requires.2
     (⊎_elim
-    (λ u. u.6 ∙ step_in _ c.args.v.now c.args.next.now _ _ c.loop-j.invariant.2 _ r _ u.0.taken u.3.ensures)
-    (λ u. u.1 ∙ step_out _ c.args.v.now c.args.next.now _ _ c.loop-j.invariant.2 _ r u.0.left)
+    (λ u. u.next-is ∙ step_in _ c.args.v.now c.args.next.now _ _ c.loop-j.invariant.2 _ r _ u.if-within.true u.insert.ensures)
+    (λ u. u.next-is ∙ step_out _ c.args.v.now c.args.next.now _ _ c.loop-j.invariant.2 _ r u.if-within.false)
     c.if-within.branch-raw) in
     (omega (arith, c.loop-j-test.true), q.0, q.1)
 
