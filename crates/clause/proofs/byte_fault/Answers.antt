@@ -13,7 +13,7 @@ returns-then-b-eq-LINE_END c =
         ⊎_elim (λ x. end_fault _ _ t i c.requires.0 refl (at_end _ x.if-b-eq-LINE_END.true))
     (⊎_elim (λ x. free_fault _ _ t i c.requires.0 refl (colon_free _ _ x.if-b-eq-COLON.true-raw))
     (⊎_elim (λ x. free_fault _ _ t i c.requires.0 refl (space_free _ _ x.if-b-eq-SPACE.true-raw))
-    (λ x. free_fault _ _ t i c.requires.0 refl (tab_free _ _ x.3.taken))))
+    (λ x. free_fault _ _ t i c.requires.0 refl (tab_free _ _ x.if-b-eq-TAB.true-raw))))
     c.then-b-eq-LINE_END.branch-raw
 
 pub returns-then-fold-ne0 : goal.returns-then-fold-ne0

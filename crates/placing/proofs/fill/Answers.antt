@@ -69,7 +69,7 @@ loop-j-preserved c =
     (λ w. without_helper ready c.loop-j.invariant t c.member.ensures w.if-member.false w.any-is w.helper-is w.home-is) c.if-member.branch-raw
     in
         ⊎_elim (λ w. placed_body ready c.loop-j.invariant t housed c.place.ensures.body c.place.ensures.all c.place.ensures.model w.if-place.true w.c-is)
-    (λ w. placed_fact ready c.loop-j.invariant t housed c.place.ensures.body c.place.ensures.all c.place.ensures.model w.if-place.false w.1) c.if-place.branch-raw
+    (λ w. placed_fact ready c.loop-j.invariant t housed c.place.ensures.body c.place.ensures.all c.place.ensures.model w.if-place.false w.c-is) c.if-place.branch-raw
 
 pub returns : goal.returns
 returns c =  placed_all c.requires c.loop-j.invariant c.loop-j-test.false

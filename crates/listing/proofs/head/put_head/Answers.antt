@@ -46,7 +46,7 @@ overflow_add-result c =
     let l₂ = after_held _ _ _ _ l₁ c.put_field-after_held.ensures.text c.put_field-after_held.ensures.next in
     let l₃ = after_folds _ _ _ _ l₂ c.put_field-after_folds.ensures.text c.put_field-after_folds.ensures.next in
     let l₄ = after_rounds _ _ _ _ l₃ c.put_field-end.ensures.text c.put_field-end.ensures.next in
-    omega (arith, c.well-formed, line_next l₄)
+    omega (arith, c.well_formed, line_next l₄)
 
 pub shape_of-text : goal.shape_of-text
 shape_of-text c =
