@@ -43,7 +43,7 @@ fn number(text: &str) -> u64 {
 
 fn options() -> Options {
     let seed = std::env::var("DPB_SEED").map_or(1, |seed| number(&seed));
-    let mut options = Options { seed, books: 200_000, only: None, folder: PathBuf::from("out/differences") };
+    let mut options = Options { seed, books: 200_000, only: None, folder: PathBuf::from("target/differences") };
     let mut words = std::env::args().skip(1);
     while let Some(word) = words.next() {
         let value = words.next().unwrap_or_default();
