@@ -9,7 +9,7 @@
  * compiler has <stdint.h>, as GCC does.
  *
  * To link, once installed:  cc host.c $(pkg-config --cflags --libs dpb)
- * from a checkout:  rt staticlib dpb && cc -Iinclude host.c target/staticlib/libdpb.a
+ * from a checkout:  (cd crates/dpb && rt lib) && cc -Iinclude host.c crates/dpb/out/libdpb.a
  */
 #ifndef DPB_H
 #define DPB_H
