@@ -10,7 +10,7 @@ pub overflow_cast-area : goal.overflow_cast-area
 overflow_cast-area c = omega (arith, c.type_inv.area c.loop-i.i)
 
 pub loop-i-preserved : goal.loop-i-preserved
-loop-i-preserved c =         onward_more c.args.area.now _ _ _ _ c.loop-i-test.true c.join-s.ensures c.loop-i.invariant
+loop-i-preserved c = onward_more c.args.area.now _ _ _ _ c.loop-i-test.true c.join-s.ensures c.loop-i.invariant
 
 pub returns : goal.returns
 returns c = sym (onward_end _ _ _ c.loop-i-test.false) ∙ c.loop-i.invariant

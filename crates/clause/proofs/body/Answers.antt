@@ -18,10 +18,10 @@ loop-at-init c =
     )
 
 pub word_fault-fault-requires : goal.word_fault-fault-requires
-word_fault-fault-requires c =  record {
-      line_ends = (c.loop-at.invariant.0.walk.closed, c.requires.line_ends.1);
-      end_value = c.word-word.ensures.ends;
-    }
+word_fault-fault-requires c = record {
+  line_ends = (c.loop-at.invariant.0.walk.closed, c.requires.line_ends.1);
+  end_value = c.word-word.ensures.ends;
+}
 
 pub shape_of-spellings-then-not-is_name : goal.shape_of-spellings-then-not-is_name
 shape_of-spellings-then-not-is_name c = c.loop-at.invariant.0.kept.as_long

@@ -9,8 +9,8 @@ use Rattle.clause.proofs.byte_fault.Goals as goal
 pub returns-then-b-eq-LINE_END : goal.returns-then-b-eq-LINE_END
 returns-then-b-eq-LINE_END c =
     let t = c.args.text.now in
-        let i = c.args.at in
-        ⊎_elim (λ x. end_fault _ _ t i c.requires.0 refl (at_end _ x.if-b-eq-LINE_END.true))
+    let i = c.args.at in
+    ⊎_elim (λ x. end_fault _ _ t i c.requires.0 refl (at_end _ x.if-b-eq-LINE_END.true))
     (⊎_elim (λ x. free_fault _ _ t i c.requires.0 refl (colon_free _ _ x.if-b-eq-COLON.true-raw))
     (⊎_elim (λ x. free_fault _ _ t i c.requires.0 refl (space_free _ _ x.if-b-eq-SPACE.true-raw))
     (λ x. free_fault _ _ t i c.requires.0 refl (tab_free _ _ x.if-b-eq-TAB.true-raw))))

@@ -44,16 +44,16 @@ returns-then-known-n c =
     }
 
 pub meet-met-requires : goal.meet-met-requires
-meet-met-requires c =  record {
-      name_here = (c.requires.name_here.0, c.requires.name_here.1);
-      in_order = c.requires.in_order (not-false _ c.if-not-room.false-raw);
-    }
+meet-met-requires c = record {
+  name_here = (c.requires.name_here.0, c.requires.name_here.1);
+  in_order = c.requires.in_order (not-false _ c.if-not-room.false-raw);
+}
 
 pub returns-then-not-met : goal.returns-then-not-met
 returns-then-not-met c =
     let x = lexicon_of c.args.n c.args.spellings.now c.args.first.now c.args.prior.now in
     let k = c.requires.in_order (not-false _ c.if-not-room.false-raw) in
-        let y = lexicon_of c.args.n c.meet-met.new.spellings c.meet-met.new.first c.meet-met.new.prior in
+    let y = lexicon_of c.args.n c.meet-met.new.spellings c.meet-met.new.first c.meet-met.new.prior in
     record {
       kept = c.meet-met.ensures.kept;
       joins = onward_full c.args.room _ _ _ x _ k c.meet-met.ensures (not-true _ c.if-not-met.true) y c.args.row.now;
@@ -63,13 +63,13 @@ pub insert-requires-2 : goal.insert-requires-2
 insert-requires-2 c =
     let x = lexicon_of c.args.n c.args.spellings.now c.args.first.now c.args.prior.now in
     let k = c.requires.in_order (not-false _ c.if-not-room.false-raw) in
-        (omega (arith, c.requires.name_here.2), omega (arith, low c.args.room _ _ _ x _ k c.meet-met.ensures (not-false _ c.if-not-met.false)))
+    (omega (arith, c.requires.name_here.2), omega (arith, low c.args.room _ _ _ x _ k c.meet-met.ensures (not-false _ c.if-not-met.false)))
 
 pub returns : goal.returns
 returns c =
     let x = lexicon_of c.args.n c.args.spellings.now c.args.first.now c.args.prior.now in
     let k = c.requires.in_order (not-false _ c.if-not-room.false-raw) in
-        let y = lexicon_of c.meet-met.result.names c.meet-met.new.spellings c.meet-met.new.first c.meet-met.new.prior in record {
+    let y = lexicon_of c.meet-met.result.names c.meet-met.new.spellings c.meet-met.new.first c.meet-met.new.prior in record {
       kept = c.meet-met.ensures.kept;
       joins = onward_one c.args.room _ _ _ x y k c.meet-met.ensures (not-false _ c.if-not-room.false-raw) (not-false _ c.if-not-met.false) c.args.row.now _
           c.insert-2.ensures;

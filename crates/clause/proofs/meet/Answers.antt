@@ -37,6 +37,6 @@ add-requires c =
 pub returns : goal.returns
 returns c =
     let x = lexicon_of c.args.count c.args.spellings.now c.args.first.now c.args.prior.now in
-        met_new _ c.requires.name_here.1.1 c.args.text.now c.args.at _ _ c.requires.name_here.0 x c.requires.in_order _ c.find-number.ensures c.if-number-count.false
+    met_new _ c.requires.name_here.1.1 c.args.text.now c.args.at _ _ c.requires.name_here.0 x c.requires.in_order _ c.find-number.ensures c.if-number-count.false
     c.if-count-eq-NAMES.false
     c.add.new.spellings c.add.new.first c.add.new.prior c.add.ensures.area c.add.ensures.firsts c.add.ensures.priors

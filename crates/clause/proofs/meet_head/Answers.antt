@@ -19,9 +19,9 @@ returns-then-known-n c =
 
 pub meet-requires : goal.meet-requires
 meet-requires c = record {
-      name_here = c.requires.name_here;
-      in_order = c.requires.in_order;
-    }
+  name_here = c.requires.name_here;
+  in_order = c.requires.in_order;
+}
 
 pub returns : goal.returns
 returns c = c.meet.ensures

@@ -20,59 +20,58 @@ use Rattle.clause.proofs.Saying.{said_fault, met_ready, said_body}
 use Rattle.clause.proofs.rule.Goals as goal
 
 pub word_fault-fault-requires : goal.word_fault-fault-requires
-word_fault-fault-requires c =  record {
-      line_ends = (c.requires.line_ends.0, c.requires.fold_table.0);
-      end_value = c.word-word.ensures.ends;
-    }
+word_fault-fault-requires c = record {
+  line_ends = (c.requires.line_ends.0, c.requires.fold_table.0);
+  end_value = c.word-word.ensures.ends;
+}
 
 pub returns-then-not-is_name : goal.returns-then-not-is_name
 returns-then-not-is_name c =
     let x = lexicon_of c.args.n c.args.spellings.now c.args.first.now c.args.prior.now in
     let both =
-        subst
-        (λ (r : Found).
-        (r.cursor.line ≡ c.args.cursor.line)
-        × Said (letters c.args.table.now) c.args.text.now c.args.cursor.at x r.fault r.cursor.at r.room r.head
-        (lexicon_of r.names c.args.spellings.now c.args.first.now c.args.prior.now) c.args.row.now)
-        (sym c.at_fault.ensures) (
-          refl,
-          said_fault _ c.args.text.now c.args.cursor.at x _ _ _ _ c.args.row.now
-              (headless _ c.requires.fold_table.0.1 c.args.text.now c.args.cursor.at c.requires.line_ends.0 c.requires.line_ends.1
-              (sym (c.is_name.ensures _ c.args.text.now c.word-word.ensures.ends) ∙ not-true _ c.if-not-is_name.true-raw)
-              ∙ ap fault (sym c.word_fault-fault.ensures))
-              (λ o. word_some _ (line_at c.args.text.now c.args.cursor.at) (sym c.word_fault-fault.ensures ∙ o)),
-        ) in
+    subst
+    (λ (r : Found).
+    (r.cursor.line ≡ c.args.cursor.line)
+    × Said (letters c.args.table.now) c.args.text.now c.args.cursor.at x r.fault r.cursor.at r.room r.head
+    (lexicon_of r.names c.args.spellings.now c.args.first.now c.args.prior.now) c.args.row.now)
+    (sym c.at_fault.ensures) (
+      refl,
+      said_fault _ c.args.text.now c.args.cursor.at x _ _ _ _ c.args.row.now
+          (headless _ c.requires.fold_table.0.1 c.args.text.now c.args.cursor.at c.requires.line_ends.0 c.requires.line_ends.1
+          (sym (c.is_name.ensures _ c.args.text.now c.word-word.ensures.ends) ∙ not-true _ c.if-not-is_name.true-raw)
+          ∙ ap fault (sym c.word_fault-fault.ensures))
+          (λ o. word_some _ (line_at c.args.text.now c.args.cursor.at) (sym c.word_fault-fault.ensures ∙ o)),
+    ) in
     record { line = both.0; said = both.1 }
 
 pub byte_fault-fault-requires : goal.byte_fault-fault-requires
-byte_fault-fault-requires c =
-    (
-      behind_in _ c.requires.fold_table.0.1 c.args.text.now c.args.cursor.at c.requires.line_ends.0 c.requires.line_ends.1 _
-          (past_word _ c.args.text.now c.args.cursor.at _ _ (ap (λ (k : Cursor). k.at) c.moved.ensures ∙ c.word-word.ensures.ends)
-          (ap (λ (k : Cursor). k.at) c.past_blanks-colon.ensures)),
-      c.requires.fold_table.0,
-    )
+byte_fault-fault-requires c = (
+  behind_in _ c.requires.fold_table.0.1 c.args.text.now c.args.cursor.at c.requires.line_ends.0 c.requires.line_ends.1 _
+      (past_word _ c.args.text.now c.args.cursor.at _ _ (ap (λ (k : Cursor). k.at) c.moved.ensures ∙ c.word-word.ensures.ends)
+      (ap (λ (k : Cursor). k.at) c.past_blanks-colon.ensures)),
+  c.requires.fold_table.0,
+)
 
 pub returns-then-not-sees : goal.returns-then-not-sees
 returns-then-not-sees c =
     let x = lexicon_of c.args.n c.args.spellings.now c.args.first.now c.args.prior.now in
     let both =
-        subst
-        (λ (r : Found).
-        (r.cursor.line ≡ c.args.cursor.line)
-        × Said (letters c.args.table.now) c.args.text.now c.args.cursor.at x r.fault r.cursor.at r.room r.head
-        (lexicon_of r.names c.args.spellings.now c.args.first.now c.args.prior.now) c.args.row.now)
-        (sym c.at_fault-then-not-sees.ensures) (
-          ap (λ (k : Cursor). k.line) c.past_blanks-colon.ensures ∙ ap (λ (k : Cursor). k.line) c.moved.ensures,
-          said_fault _ c.args.text.now c.args.cursor.at x _ _ _ _ c.args.row.now
-              (uncoloned _ c.requires.fold_table.0.1 c.args.text.now c.args.cursor.at c.requires.line_ends.0 c.requires.line_ends.1 _
-              (past_word _ c.args.text.now c.args.cursor.at _ _ (ap (λ (k : Cursor). k.at) c.moved.ensures ∙ c.word-word.ensures.ends)
-              (ap (λ (k : Cursor). k.at) c.past_blanks-colon.ensures))
-              (sym (c.is_name.ensures _ c.args.text.now c.word-word.ensures.ends) ∙ not-false _ c.if-not-is_name.false-raw)
-              (sym c.sees.ensures ∙ not-true _ c.if-not-sees.true-raw)
-              ∙ ap fault (sym c.byte_fault-fault.ensures))
-              (λ o. byte_some _ _ (sym c.byte_fault-fault.ensures ∙ o)),
-        ) in
+    subst
+    (λ (r : Found).
+    (r.cursor.line ≡ c.args.cursor.line)
+    × Said (letters c.args.table.now) c.args.text.now c.args.cursor.at x r.fault r.cursor.at r.room r.head
+    (lexicon_of r.names c.args.spellings.now c.args.first.now c.args.prior.now) c.args.row.now)
+    (sym c.at_fault-then-not-sees.ensures) (
+      ap (λ (k : Cursor). k.line) c.past_blanks-colon.ensures ∙ ap (λ (k : Cursor). k.line) c.moved.ensures,
+      said_fault _ c.args.text.now c.args.cursor.at x _ _ _ _ c.args.row.now
+          (uncoloned _ c.requires.fold_table.0.1 c.args.text.now c.args.cursor.at c.requires.line_ends.0 c.requires.line_ends.1 _
+          (past_word _ c.args.text.now c.args.cursor.at _ _ (ap (λ (k : Cursor). k.at) c.moved.ensures ∙ c.word-word.ensures.ends)
+          (ap (λ (k : Cursor). k.at) c.past_blanks-colon.ensures))
+          (sym (c.is_name.ensures _ c.args.text.now c.word-word.ensures.ends) ∙ not-false _ c.if-not-is_name.false-raw)
+          (sym c.sees.ensures ∙ not-true _ c.if-not-sees.true-raw)
+          ∙ ap fault (sym c.byte_fault-fault.ensures))
+          (λ o. byte_some _ _ (sym c.byte_fault-fault.ensures ∙ o)),
+    ) in
     record { line = both.0; said = both.1 }
 
 pub meet_head-met-requires : goal.meet_head-met-requires

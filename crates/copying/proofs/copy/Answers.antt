@@ -14,6 +14,6 @@ loop-i-preserved c = (
 
 pub returns : goal.returns
 returns c = record {
-      next = search rules;
-      area = copy_done _ _ _ c.requires _ _ c.loop-i.invariant.2 c.loop-i.invariant.0 c.loop-i-test.false;
-    }
+  next = search rules;
+  area = copy_done _ _ _ c.requires _ _ c.loop-i.invariant.2 c.loop-i.invariant.0 c.loop-i-test.false;
+}

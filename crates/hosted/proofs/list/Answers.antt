@@ -14,10 +14,10 @@ use Rattle.hosting.proofs.Calls.{list_seen}
 use Rattle.hosted.proofs.list.Goals as goal
 
 pub solve_in-r-requires : goal.solve_in-r-requires
-solve_in-r-requires c =  record {
-      fold_table = subst FoldTable (sym (fill_whole _ refl _ c.fill.ensures)) our_table_lem;
-      clear = λ t. (zeros_clear row_area, zeros_clear row_area, zeros_clear row_area);
-    }
+solve_in-r-requires c = record {
+  fold_table = subst FoldTable (sym (fill_whole _ refl _ c.fill.ensures)) our_table_lem;
+  clear = λ t. (zeros_clear row_area, zeros_clear row_area, zeros_clear row_area);
+}
 
 pub returns : goal.returns
 returns c =

@@ -6,10 +6,10 @@ use borrow.Author.Rules.{rules}
 use Rattle.placing.proofs.begin.Goals as goal
 
 pub clear_stale64-requires : goal.clear_stale64-requires
-clear_stale64-requires c =  (search rules, search rules, λ f. all_clear _ _ _ _ c.requires.count_le_atoms.0 c.row_at-unused.ensures c.alone.ensures (c.requires.clear f).0)
+clear_stale64-requires c = (search rules, search rules, λ f. all_clear _ _ _ _ c.requires.count_le_atoms.0 c.row_at-unused.ensures c.alone.ensures (c.requires.clear f).0)
 
 pub clear_stale64-requires-2 : goal.clear_stale64-requires-2
-clear_stale64-requires-2 c =  (search rules, search rules, λ f. any_clear _ _ _ _ c.requires.count_le_atoms.0 c.row_at-unused.ensures c.clear_tail64.ensures (c.requires.clear f).1)
+clear_stale64-requires-2 c = (search rules, search rules, λ f. any_clear _ _ _ _ c.requires.count_le_atoms.0 c.row_at-unused.ensures c.clear_tail64.ensures (c.requires.clear f).1)
 
 pub returns : goal.returns
 returns c =

@@ -18,8 +18,7 @@ overflow_cast-head c = omega (arith, c.type_inv.heads c.loop-j.j)
 
 pub member-requires : goal.member-requires
 member-requires c =
-    let ready = c.requires in
-    (
+    let ready = c.requires in (
       omega (arith, marks_long ready),
       omega (arith, head_small ready c.loop-j.invariant c.loop-j-test.true, few_names ready),
     )
@@ -27,12 +26,11 @@ member-requires c =
 pub row_at-requires : goal.row_at-requires
 row_at-requires c =
     let ready = c.requires in
-        omega (arith, head_small ready c.loop-j.invariant c.loop-j-test.true, few_names ready)
+    omega (arith, head_small ready c.loop-j.invariant c.loop-j-test.true, few_names ready)
 
 pub insert-requires : goal.insert-requires
 insert-requires c =
-    let ready = c.requires in
-    (
+    let ready = c.requires in (
       omega (arith, head_small ready c.loop-j.invariant c.loop-j-test.true, few_names ready),
       helper_small ready c.loop-j.invariant c.loop-j-test.true c.member.ensures c.if-member.true,
     )
@@ -40,7 +38,7 @@ insert-requires c =
 pub overflow_add-helper : goal.overflow_add-helper
 overflow_add-helper c =
     let ready = c.requires in
-        omega (
+    omega (
       arith,
       helper_small ready c.loop-j.invariant c.loop-j-test.true c.member.ensures c.if-member.true,
     )
@@ -48,8 +46,8 @@ overflow_add-helper c =
 pub place-requires : goal.place-requires
 place-requires c =
     let ready = c.requires in
-        let t = c.loop-j-test.true in
-        let housed =
+    let t = c.loop-j-test.true in
+    let housed =
     ⊎_elim
     (λ w. with_helper ready c.loop-j.invariant t c.member.ensures w.if-member.true w.row_at.ensures w.insert.ensures w.any-is w.helper-is w.home-is)
     (λ w. without_helper ready c.loop-j.invariant t c.member.ensures w.if-member.false w.any-is w.helper-is w.home-is) c.if-member.branch-raw
@@ -57,19 +55,19 @@ place-requires c =
     (omega (arith, few_rules ready), home_small ready c.loop-j.invariant t housed, search rules, search rules, search rules)
 
 pub overflow_add-c : goal.overflow_add-c
-overflow_add-c c =  omega (arith, c_small c.requires c.loop-j.invariant c.loop-j-test.true)
+overflow_add-c c = omega (arith, c_small c.requires c.loop-j.invariant c.loop-j-test.true)
 
 pub loop-j-preserved : goal.loop-j-preserved
 loop-j-preserved c =
     let ready = c.requires in
-        let t = c.loop-j-test.true in
-        let housed =
+    let t = c.loop-j-test.true in
+    let housed =
     ⊎_elim
     (λ w. with_helper ready c.loop-j.invariant t c.member.ensures w.if-member.true w.row_at.ensures w.insert.ensures w.any-is w.helper-is w.home-is)
     (λ w. without_helper ready c.loop-j.invariant t c.member.ensures w.if-member.false w.any-is w.helper-is w.home-is) c.if-member.branch-raw
     in
-        ⊎_elim (λ w. placed_body ready c.loop-j.invariant t housed c.place.ensures.body c.place.ensures.all c.place.ensures.model w.if-place.true w.c-is)
+    ⊎_elim (λ w. placed_body ready c.loop-j.invariant t housed c.place.ensures.body c.place.ensures.all c.place.ensures.model w.if-place.true w.c-is)
     (λ w. placed_fact ready c.loop-j.invariant t housed c.place.ensures.body c.place.ensures.all c.place.ensures.model w.if-place.false w.c-is) c.if-place.branch-raw
 
 pub returns : goal.returns
-returns c =  placed_all c.requires c.loop-j.invariant c.loop-j-test.false
+returns c = placed_all c.requires c.loop-j.invariant c.loop-j-test.false

@@ -21,6 +21,6 @@ returns c =
     record {
       body = body_some _ _ _ _ c.body_at-from.ensures c.empty.ensures c.if-empty.false;
       all = body_row _ _ _ _ _ _ _ _ (omega arith) (omega arith) c.body_at-from.ensures c.row_at-row.ensures c.clear_tail64.ensures
-            c.unite.ensures;
+          c.unite.ensures;
       model = refl;
     }

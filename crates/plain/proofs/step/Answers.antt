@@ -7,13 +7,13 @@ use borrow.Author.Rules.{rules}
 use Rattle.plain.proofs.step.Goals as goal
 
 pub loop-j-init : goal.loop-j-init
-loop-j-init c =  (search rules, search rules, step_none _ c.args.v.now c.args.next.now c.type_inv.next c.requires.2)
+loop-j-init c = (search rules, search rules, step_none _ c.args.v.now c.args.next.now c.type_inv.next c.requires.2)
 
 pub overflow_cast-heads : goal.overflow_cast-heads
 overflow_cast-heads c = omega (arith, c.type_inv.heads c.loop-j.j)
 
 pub insert-requires : goal.insert-requires
-insert-requires c =  (search rules, omega (arith, c.requires.3 _ c.loop-j-test.true))
+insert-requires c = (search rules, omega (arith, c.requires.3 _ c.loop-j-test.true))
 
 pub loop-j-preserved : goal.loop-j-preserved
 loop-j-preserved c =
@@ -27,4 +27,4 @@ loop-j-preserved c =
     (omega (arith, c.loop-j-test.true), q.0, q.1)
 
 pub returns : goal.returns
-returns c =  step_all _ c.args.v.now c.args.next.now _ _ _ c.loop-j.invariant.0 c.loop-j-test.false c.loop-j.invariant.2
+returns c = step_all _ c.args.v.now c.args.next.now _ _ _ c.loop-j.invariant.0 c.loop-j-test.false c.loop-j.invariant.2

@@ -5,4 +5,4 @@ use Rattle.scan.specs.declared.cursor.Cursor.{Cursor}
 use Rattle.reader.proofs.behind.Goals as goal
 
 pub returns : goal.returns
-returns c =  ap (λ (k : Cursor). record { cause = 0; after = record { cursor = k; names = c.args.n; rules = c.args.m } }) c.next_line.ensures
+returns c = ap (λ (k : Cursor). record { cause = 0; after = record { cursor = k; names = c.args.n; rules = c.args.m } }) c.next_line.ensures

@@ -52,19 +52,19 @@ returns-then-step-ne0 c =
     tables_at 0 0 c.line-step.new.spellings c.line-step.new.first c.line-step.new.prior c.line-step.new.heads
     c.line-step.new.bodies in
     let both =
-        subst
-        (λ (r : Answer).
-        Stayed x
-        (tables_at r.names r.rules c.line-step.new.spellings c.line-step.new.first c.line-step.new.prior c.line-step.new.heads
-        c.line-step.new.bodies)
-        × Lined (letters c.args.table.now) c.args.text.now r.number r.line
-        (tables_at r.names r.rules c.line-step.new.spellings c.line-step.new.first c.line-step.new.prior c.line-step.new.heads
-        c.line-step.new.bodies))
-        (sym c.refused.ensures) (
-          stayed_on x y z c.loop-reading.invariant.stayed (record { kept = c.line-step.ensures.stays.kept; head_kept = c.line-step.ensures.stays.head_kept; body_kept = c.line-step.ensures.stays.body_kept }),
-          going_stop _ c.args.text.now c.loop-reading.reading.cursor.at c.loop-reading.reading.cursor.line x y c.loop-reading.invariant c.loop-reading-test.true _ _ _ w
-              (c.line-step.ensures.steps c.loop-reading.invariant.cs c.loop-reading.invariant.booked) c.if-step-ne0.true z refl refl,
-        ) in
+    subst
+    (λ (r : Answer).
+    Stayed x
+    (tables_at r.names r.rules c.line-step.new.spellings c.line-step.new.first c.line-step.new.prior c.line-step.new.heads
+    c.line-step.new.bodies)
+    × Lined (letters c.args.table.now) c.args.text.now r.number r.line
+    (tables_at r.names r.rules c.line-step.new.spellings c.line-step.new.first c.line-step.new.prior c.line-step.new.heads
+    c.line-step.new.bodies))
+    (sym c.refused.ensures) (
+      stayed_on x y z c.loop-reading.invariant.stayed (record { kept = c.line-step.ensures.stays.kept; head_kept = c.line-step.ensures.stays.head_kept; body_kept = c.line-step.ensures.stays.body_kept }),
+      going_stop _ c.args.text.now c.loop-reading.reading.cursor.at c.loop-reading.reading.cursor.line x y c.loop-reading.invariant c.loop-reading-test.true _ _ _ w
+          (c.line-step.ensures.steps c.loop-reading.invariant.cs c.loop-reading.invariant.booked) c.if-step-ne0.true z refl refl,
+    ) in
     record { stays = both.0; reads = both.1 }
 
 pub loop-reading-smaller : goal.loop-reading-smaller

@@ -21,10 +21,10 @@ returns-then-not-begins c =
     (book_unmarked fold c.args.text.now (sym c.begins.ensures ∙ not-true _ c.if-not-begins.true-raw))
 
 pub overflow_sub-text : goal.overflow_sub-text
-overflow_sub-text c =  omega (arith, mark_long c.args.text.now (sym c.begins.ensures ∙ not-false _ c.if-not-begins.false-raw))
+overflow_sub-text c = omega (arith, mark_long c.args.text.now (sym c.begins.ensures ∙ not-false _ c.if-not-begins.false-raw))
 
 pub bounds-text-text : goal.bounds-text-text
-bounds-text-text c =  omega (arith, mark_long c.args.text.now (sym c.begins.ensures ∙ not-false _ c.if-not-begins.false-raw))
+bounds-text-text c = omega (arith, mark_long c.args.text.now (sym c.begins.ensures ∙ not-false _ c.if-not-begins.false-raw))
 
 pub returns-then-text-ne-LINE_END : goal.returns-then-text-ne-LINE_END
 returns-then-text-ne-LINE_END c =

@@ -11,5 +11,5 @@ returns c =
       spellings = c.clear_tail8.ensures ∙ ap (λ (k : ℕ). cleared k name_area c.args.spellings.now) c.name_at.ensures;
       heads = c.clear_tail16.ensures;
       bodies = c.clear_tail64.ensures ∙ ap (λ (k : ℕ). cleared k body_area c.args.bodies.now)
-            c.body_at.ensures;
+          c.body_at.ensures;
     }

@@ -11,10 +11,10 @@ pub well_formed-requires : goal.well_formed-requires
 well_formed-requires c = long_at _ (sym c.too_short.ensures ∙ c.if-too_short.false)
 
 pub returns-then-not-well_formed : goal.returns-then-not-well_formed
-returns-then-not-well_formed c =  call_ill _ _ _ c.too_short.ensures c.if-too_short.false _ c.well_formed-2.ensures c.if-not-well_formed.true-raw
+returns-then-not-well_formed c = call_ill _ _ _ c.too_short.ensures c.if-too_short.false _ c.well_formed-2.ensures c.if-not-well_formed.true-raw
 
 pub run_formed-requires : goal.run_formed-requires
-run_formed-requires c =  judged _ _ _ c.too_short.ensures c.if-too_short.false _ c.well_formed-2.ensures c.if-not-well_formed.false-raw
+run_formed-requires c = judged _ _ _ c.too_short.ensures c.if-too_short.false _ c.well_formed-2.ensures c.if-not-well_formed.false-raw
 
 pub returns : goal.returns
 returns c = c.run_formed.ensures

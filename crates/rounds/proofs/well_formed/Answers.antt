@@ -8,10 +8,10 @@ pub returns-then-not-formed : goal.returns-then-not-formed
 returns-then-not-formed c = ill_all _ _ _ c.formed.ensures c.if-not-formed.true-raw
 
 pub returns-then-not-formed-2 : goal.returns-then-not-formed-2
-returns-then-not-formed-2 c =  ill_any _ _ _ c.formed.ensures c.if-not-formed.false-raw _ c.formed-2.ensures c.if-not-formed-2.true-raw
+returns-then-not-formed-2 c = ill_any _ _ _ c.formed.ensures c.if-not-formed.false-raw _ c.formed-2.ensures c.if-not-formed-2.true-raw
 
 pub next-requires : goal.next-requires
-next-requires c =  (search rules, (passed _ _ _ c.formed.ensures c.if-not-formed.false-raw).0, search rules)
+next-requires c = (search rules, (passed _ _ _ c.formed.ensures c.if-not-formed.false-raw).0, search rules)
 
 pub returns : goal.returns
-returns c =  start_decides _ _ _ c.formed.ensures c.if-not-formed.false-raw _ c.formed-2.ensures _ c.if-not-formed-2.false-raw c.next.ensures
+returns c = start_decides _ _ _ c.formed.ensures c.if-not-formed.false-raw _ c.formed-2.ensures _ c.if-not-formed-2.false-raw c.next.ensures

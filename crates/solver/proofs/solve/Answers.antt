@@ -6,7 +6,7 @@ use Rattle.solver.proofs.Calls.{lent, call_first, passes_first}
 use Rattle.solver.proofs.solve.Goals as goal
 
 pub returns-then-first-ne0 : goal.returns-then-first-ne0
-returns-then-first-ne0 c =  call_first _ _ _ _ c.too_short-short.ensures c.cause-first.ensures c.refused-unsolved.ensures c.if-first-ne0.true
+returns-then-first-ne0 c = call_first _ _ _ _ c.too_short-short.ensures c.cause-first.ensures c.refused-unsolved.ensures c.if-first-ne0.true
 
 pub solve_in-solved-requires : goal.solve_in-solved-requires
 solve_in-solved-requires c =

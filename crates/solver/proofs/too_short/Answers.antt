@@ -12,13 +12,13 @@ pub returns-then-bodies-lt-BODY_AREA : goal.returns-then-bodies-lt-BODY_AREA
 returns-then-bodies-lt-BODY_AREA c = lack_bodies _ _ _ _ _ _ _ _ c.if-spellings-lt-NAME_AREA.false c.if-heads-lt-RULES.false c.if-bodies-lt-BODY_AREA.true
 
 pub returns-then-all-lt-ROW_AREA : goal.returns-then-all-lt-ROW_AREA
-returns-then-all-lt-ROW_AREA c =  lack_all _ _ _ _ _ _ _ _ c.if-spellings-lt-NAME_AREA.false c.if-heads-lt-RULES.false c.if-bodies-lt-BODY_AREA.false c.if-all-lt-ROW_AREA.true
+returns-then-all-lt-ROW_AREA c = lack_all _ _ _ _ _ _ _ _ c.if-spellings-lt-NAME_AREA.false c.if-heads-lt-RULES.false c.if-bodies-lt-BODY_AREA.false c.if-all-lt-ROW_AREA.true
 
 pub returns-then-any-lt-ROW_AREA : goal.returns-then-any-lt-ROW_AREA
-returns-then-any-lt-ROW_AREA c =  lack_any _ _ _ _ _ _ _ _ c.if-spellings-lt-NAME_AREA.false c.if-heads-lt-RULES.false c.if-bodies-lt-BODY_AREA.false c.if-all-lt-ROW_AREA.false c.if-any-lt-ROW_AREA.true
+returns-then-any-lt-ROW_AREA c = lack_any _ _ _ _ _ _ _ _ c.if-spellings-lt-NAME_AREA.false c.if-heads-lt-RULES.false c.if-bodies-lt-BODY_AREA.false c.if-all-lt-ROW_AREA.false c.if-any-lt-ROW_AREA.true
 
 pub returns-then-spare-lt-ROW_AREA : goal.returns-then-spare-lt-ROW_AREA
-returns-then-spare-lt-ROW_AREA c =  lack_spare _ _ _ _ _ _ _ _ c.if-spellings-lt-NAME_AREA.false c.if-heads-lt-RULES.false c.if-bodies-lt-BODY_AREA.false c.if-all-lt-ROW_AREA.false c.if-any-lt-ROW_AREA.false c.if-spare-lt-ROW_AREA.true
+returns-then-spare-lt-ROW_AREA c = lack_spare _ _ _ _ _ _ _ _ c.if-spellings-lt-NAME_AREA.false c.if-heads-lt-RULES.false c.if-bodies-lt-BODY_AREA.false c.if-all-lt-ROW_AREA.false c.if-any-lt-ROW_AREA.false c.if-spare-lt-ROW_AREA.true
 
 pub returns-then-model-lt-ROW_WORDS : goal.returns-then-model-lt-ROW_WORDS
 returns-then-model-lt-ROW_WORDS c =

@@ -5,22 +5,22 @@ use borrow.Author.Rules.{rules}
 use Rattle.standard.proofs.standardise_formed.Goals as goal
 
 pub several-several-requires : goal.several-several-requires
-several-several-requires c =  ((in_limits _ _ c.requires.standard_long.1).1, c.requires.standard_long.0.0.0, head_names _ _ c.requires.standard_long.1)
+several-several-requires c = ((in_limits _ _ c.requires.standard_long.1).1, c.requires.standard_long.0.0.0, head_names _ _ c.requires.standard_long.1)
 
 pub helpers-requires : goal.helpers-requires
-helpers-requires c =  ((in_limits _ _ c.requires.standard_long.1).1, c.requires.standard_long.0.0.0, search rules, head_names _ _ c.requires.standard_long.1)
+helpers-requires c = ((in_limits _ _ c.requires.standard_long.1).1, c.requires.standard_long.0.0.0, search rules, head_names _ _ c.requires.standard_long.1)
 
 pub overflow_add-atoms : goal.overflow_add-atoms
-overflow_add-atoms c =  omega (arith, helpers_few _ _ c.requires.standard_long.1 _ c.several-several.ensures _ c.helpers.ensures)
+overflow_add-atoms c = omega (arith, helpers_few _ _ c.requires.standard_long.1 _ c.several-several.ensures _ c.helpers.ensures)
 
 pub returns-then-atoms-gt-ATOMS : goal.returns-then-atoms-gt-ATOMS
-returns-then-atoms-gt-ATOMS c =  call_over _ _ _ c.requires.standard_long.0 c.requires.standard_long.1 _ c.several-several.ensures _ c.helpers.ensures c.if-atoms-gt-ATOMS.true
+returns-then-atoms-gt-ATOMS c = call_over _ _ _ c.requires.standard_long.0 c.requires.standard_long.1 _ c.several-several.ensures _ c.helpers.ensures c.if-atoms-gt-ATOMS.true
 
 pub begin-requires : goal.begin-requires
-begin-requires c =  record {
-      count_le_atoms = (c.if-atoms-gt-ATOMS.false, c.requires.standard_long.0.1.0, c.requires.standard_long.0.1.1, c.requires.standard_long.0.1.2);
-      clear = c.requires.clear;
-    }
+begin-requires c = record {
+  count_le_atoms = (c.if-atoms-gt-ATOMS.false, c.requires.standard_long.0.1.0, c.requires.standard_long.0.1.1, c.requires.standard_long.0.1.2);
+  clear = c.requires.clear;
+}
 
 pub fill-c-requires : goal.fill-c-requires
 fill-c-requires c =

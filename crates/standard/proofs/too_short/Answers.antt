@@ -15,4 +15,4 @@ pub returns-then-any-lt-ROW_AREA : goal.returns-then-any-lt-ROW_AREA
 returns-then-any-lt-ROW_AREA c = lack_any _ _ _ _ _ c.if-any-lt-ROW_AREA.true
 
 pub returns : goal.returns
-returns c =  lack_model _ _ _ _ _ c.if-heads-lt-RULES.false c.if-bodies-lt-BODY_AREA.false c.if-all-lt-ROW_AREA.false c.if-any-lt-ROW_AREA.false
+returns c = lack_model _ _ _ _ _ c.if-heads-lt-RULES.false c.if-bodies-lt-BODY_AREA.false c.if-all-lt-ROW_AREA.false c.if-any-lt-ROW_AREA.false

@@ -9,10 +9,10 @@ use borrow.Author.Rules.{rules}
 use Rattle.unfold.proofs.fold.Goals as goal
 
 pub returns-then-all-lt-ROW_AREA : goal.returns-then-all-lt-ROW_AREA
-returns-then-all-lt-ROW_AREA c =  call_short c.args.all.now c.args.spare.now _ _ (⊎_elim (λ w. inl w.if-all-lt-ROW_AREA.true) (λ w. inr (ltb-true _ _ w.if-spare-lt-ROW_AREA.true-raw)) c.then-all-lt-ROW_AREA.branch-raw)
+returns-then-all-lt-ROW_AREA c = call_short c.args.all.now c.args.spare.now _ _ (⊎_elim (λ w. inl w.if-all-lt-ROW_AREA.true) (λ w. inr (ltb-true _ _ w.if-spare-lt-ROW_AREA.true-raw)) c.then-all-lt-ROW_AREA.branch-raw)
 
 pub returns-then-k-gt-FOLDS : goal.returns-then-k-gt-FOLDS
-returns-then-k-gt-FOLDS c =  call_over c.args.all.now c.args.spare.now _ _ c.if-all-lt-ROW_AREA.false (ltb-false _ _ c.if-spare-lt-ROW_AREA.false-raw) c.if-k-gt-FOLDS.true
+returns-then-k-gt-FOLDS c = call_over c.args.all.now c.args.spare.now _ _ c.if-all-lt-ROW_AREA.false (ltb-false _ _ c.if-spare-lt-ROW_AREA.false-raw) c.if-k-gt-FOLDS.true
 
 pub returns-then-not-formed : goal.returns-then-not-formed
 returns-then-not-formed c =

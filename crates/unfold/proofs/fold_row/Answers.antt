@@ -7,12 +7,11 @@ pub loop-k-init : goal.loop-k-init
 loop-k-init c = (search rules, search rules, folded_none row_words _ _)
 
 pub loop-k-preserved : goal.loop-k-preserved
-loop-k-preserved c =
-    (
-      search rules,
-      search rules,
-      folded_on row_words _ _ _ _ _ _ c.row_at-at.ensures c.loop-k-test.true c.loop-k.invariant.2 c.fold_word.ensures,
-    )
+loop-k-preserved c = (
+  search rules,
+  search rules,
+  folded_on row_words _ _ _ _ _ _ c.row_at-at.ensures c.loop-k-test.true c.loop-k.invariant.2 c.fold_word.ensures,
+)
 
 pub returns : goal.returns
 returns c =

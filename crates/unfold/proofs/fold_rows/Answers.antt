@@ -8,7 +8,7 @@ pub loop-i-init : goal.loop-i-init
 loop-i-init c = (search rules, search rules, sym (packed_none row_words _ _))
 
 pub loop-i-preserved : goal.loop-i-preserved
-loop-i-preserved c =  (search rules, search rules, rows_next row_words _ _ _ _ c.loop-i.invariant.2 _ c.fold_row.ensures)
+loop-i-preserved c = (search rules, search rules, rows_next row_words _ _ _ _ c.loop-i.invariant.2 _ c.fold_row.ensures)
 
 pub returns : goal.returns
-returns c =  rows_all_lem row_words _ _ _ _ c.loop-i.invariant.2 _ c.loop-i.invariant.0 c.loop-i-test.false
+returns c = rows_all_lem row_words _ _ _ _ c.loop-i.invariant.2 _ c.loop-i.invariant.0 c.loop-i-test.false

@@ -14,7 +14,7 @@ returns-then-head-n c =
     c.body_at-at.ensures c.next.ensures
 
 pub returns-else-head-n : goal.returns-else-head-n
-returns-else-head-n c =  le-ltb _ _ c.if-head-n.false ∙ head_over _ _ c.args.j c.if-j-m.true c.if-head-n.false
+returns-else-head-n c = le-ltb _ _ c.if-head-n.false ∙ head_over _ _ c.args.j c.if-j-m.true c.if-head-n.false
 
 pub returns-then-head-eq0 : goal.returns-then-head-eq0
 returns-then-head-eq0 c =
@@ -22,4 +22,4 @@ returns-then-head-eq0 c =
     c.body_at-at.ensures c.empty.ensures
 
 pub returns-else-head-eq0 : goal.returns-else-head-eq0
-returns-else-head-eq0 c =  ne_eqb _ _ c.if-head-eq0.false ∙ head_left _ _ c.args.j c.if-j-m.false c.if-head-eq0.false
+returns-else-head-eq0 c = ne_eqb _ _ c.if-head-eq0.false ∙ head_left _ _ c.args.j c.if-j-m.false c.if-head-eq0.false

@@ -22,11 +22,10 @@ returns-then-not-entry c =
     c.loop-j-test.true (sym c.entry.ensures ∙ not-true c.entry.result c.if-not-entry.true-raw)
 
 pub loop-j-preserved : goal.loop-j-preserved
-loop-j-preserved c =
-    (
+loop-j-preserved c = (
   search rules,
   every_on _ _ c.loop-j.invariant.1 (sym c.entry.ensures ∙ not-false c.entry.result c.if-not-entry.false-raw),
 )
 
 pub returns : goal.returns
-returns c =  entries_end _ _ _ c.if-n-gt-NAMES.false c.if-m-gt-RULES.false c.loop-j.invariant.0 c.loop-j-test.false c.loop-j.invariant.1
+returns c = entries_end _ _ _ c.if-n-gt-NAMES.false c.if-m-gt-RULES.false c.loop-j.invariant.0 c.loop-j-test.false c.loop-j.invariant.1

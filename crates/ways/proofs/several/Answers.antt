@@ -18,17 +18,15 @@ pub overflow_cast-heads : goal.overflow_cast-heads
 overflow_cast-heads c = omega (arith, c.type_inv.heads c.loop-j.j)
 
 pub note-requires : goal.note-requires
-note-requires c =
-    (
-      omega (arith, length_names _ _ c.loop-j.invariant.1),
-      omega (arith, length_names _ _ c.loop-j.invariant.2),
-      c.requires.2 _ c.loop-j-test.true,
-    )
+note-requires c = (
+  omega (arith, length_names _ _ c.loop-j.invariant.1),
+  omega (arith, length_names _ _ c.loop-j.invariant.2),
+  c.requires.2 _ c.loop-j-test.true,
+)
 
 pub loop-j-preserved : goal.loop-j-preserved
 loop-j-preserved c =
-    let head = c.requires.2 _ c.loop-j-test.true in
-    (
+    let head = c.requires.2 _ c.loop-j-test.true in (
       search rules,
       c.note.ensures.once ∙ once_more _ _ body_words _ _ c.loop-j.invariant.1 c.loop-j.invariant.2 head,
       c.note.ensures.twice ∙ twice_more _ _ body_words _ _ c.loop-j.invariant.1 c.loop-j.invariant.2 head,

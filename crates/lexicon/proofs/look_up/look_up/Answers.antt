@@ -11,8 +11,7 @@ pub name_at-row-requires : goal.name_at-row-requires
 name_at-row-requires c = omega (arith, leb-true)
 
 pub loop-len-init : goal.loop-len-init
-loop-len-init c =
-    (
+loop-len-init c = (
   record {
     starts = c.name_at-row.ensures;
     below = c.if-a-n.true;
@@ -24,18 +23,17 @@ loop-len-init c =
 )
 
 pub loop-len-preserved : goal.loop-len-preserved
-loop-len-preserved c =
-    (
-      c.loop-len.invariant.0,
-      search rules,
-      walk_on _ _ _ _ c.loop-len.invariant.0 c.loop-len.len _ c.loop-len-test.true c.if-spellings-row-eq0.false c.loop-len.invariant.2,
-    )
+loop-len-preserved c = (
+  c.loop-len.invariant.0,
+  search rules,
+  walk_on _ _ _ _ c.loop-len.invariant.0 c.loop-len.len _ c.loop-len-test.true c.if-spellings-row-eq0.false c.loop-len.invariant.2,
+)
 
 pub returns-after-loop-len : goal.returns-after-loop-len
 returns-after-loop-len c =
     let k = c.loop-len.invariant.0 in
-        let q = c.loop-len.invariant.2 in
-        let done = ⊎_elim (λ w. walk_end _ _ _ _ k c.loop-len.len _ w.loop-len-test.false q)
+    let q = c.loop-len.invariant.2 in
+    let done = ⊎_elim (λ w. walk_end _ _ _ _ k c.loop-len.len _ w.loop-len-test.false q)
     (λ w. walk_stop _ _ _ _ k c.loop-len.len _ w.loop-len-test.true w.if-spellings-row-eq0.true q) c.loop-len-test.branch-raw in
     record {
       bytes = hands _ _ _ _ k c.loop-len.len done;
@@ -45,7 +43,7 @@ returns-after-loop-len c =
 pub returns-else-a-n : goal.returns-else-a-n
 returns-else-a-n c =
     let s = c.args.spellings.now in
-        let off =
+    let off =
     ⊎_elim (λ w. short_area s c.args.n c.args.a w.if-spellings-ge-NAME_AREA.false-raw)
     (⊎_elim (λ w. high_count s c.args.n c.args.a w.if-n-le-NAMES.false-raw) (λ w. high_number s c.args.n c.args.a w.if-a-n.false)) c.else-a-n.branch-raw in
     record {

@@ -9,15 +9,15 @@ use Rattle.listing.proofs.Held.{divides, low_le, count_held}
 use Rattle.listing.proofs.names.count_held.Goals as goal
 
 pub nonzero_rem-low : goal.nonzero_rem-low
-nonzero_rem-low c =  divides c.args.model.now c.args.n _ _ c.word_of-k.ensures c.bit_of.ensures
+nonzero_rem-low c = divides c.args.model.now c.args.n _ _ c.word_of-k.ensures c.bit_of.ensures
 
 pub overflow_cast-result : goal.overflow_cast-result
-overflow_cast-result c =  record { fits = omega (arith, low_le c.args.model.now c.args.n _ _ c.word_of-k.ensures c.bit_of.ensures) }
+overflow_cast-result c = record { fits = omega (arith, low_le c.args.model.now c.args.n _ _ c.word_of-k.ensures c.bit_of.ensures) }
 
 pub overflow_add-result : goal.overflow_add-result
 overflow_add-result c =
     let k = c.word_of-k.result in
-        record {
+    record {
       fits = omega (
         arith,
         low_le c.args.model.now c.args.n _ _ c.word_of-k.ensures c.bit_of.ensures,
@@ -28,4 +28,4 @@ overflow_add-result c =
     }
 
 pub returns : goal.returns
-returns c =  count_held c.args.model.now c.args.n _ _ c.word_of-k.ensures c.bit_of.ensures _ c.count-whole.ensures c.requires.0
+returns c = count_held c.args.model.now c.args.n _ _ c.word_of-k.ensures c.bit_of.ensures _ c.count-whole.ensures c.requires.0

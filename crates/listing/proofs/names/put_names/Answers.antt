@@ -10,14 +10,13 @@ use borrow.Author.Rules.{rules}
 use Rattle.listing.proofs.names.put_names.Goals as goal
 
 pub loop-a-init : goal.loop-a-init
-loop-a-init c =
-    (
-      (walk_range (row_words * word_bits) 0 c.next-a.result (model_in c.args.model.now) (omega arith) c.next-a.ensures).1,
-      stop_in c.args.spellings.now c.args.n (row_words * word_bits) (model_in c.args.model.now) (omega (arith, c.requires.n_le_names)) 0 _ (omega arith) c.next-a.ensures,
-      search rules,
-      names_start c.args.spellings.now c.args.n (row_words * word_bits) (model_in c.args.model.now) (omega (arith, c.requires.n_le_names)) c.args.text.now c.args.at c.requires.model_in_bounds _
-          c.next-a.ensures,
-    )
+loop-a-init c = (
+  (walk_range (row_words * word_bits) 0 c.next-a.result (model_in c.args.model.now) (omega arith) c.next-a.ensures).1,
+  stop_in c.args.spellings.now c.args.n (row_words * word_bits) (model_in c.args.model.now) (omega (arith, c.requires.n_le_names)) 0 _ (omega arith) c.next-a.ensures,
+  search rules,
+  names_start c.args.spellings.now c.args.n (row_words * word_bits) (model_in c.args.model.now) (omega (arith, c.requires.n_le_names)) c.args.text.now c.args.at c.requires.model_in_bounds _
+      c.next-a.ensures,
+)
 
 pub copy-end-requires : goal.copy-end-requires
 copy-end-requires c =

@@ -32,8 +32,8 @@ pub returns : goal.returns
 returns t c = record {
   next =
       more_next c.args.n c.args.text.now c.args.at c.requires c.if-n-lt10.false _ _ c.put_number-last.ensures.text
-          c.put_number-last.ensures.next;
+      c.put_number-last.ensures.next;
   text =
       more_put c.args.n c.args.text.now c.args.at c.requires c.if-n-lt10.false _ _ c.put_number-last.ensures.text
-          c.put_number-last.ensures.next;
+      c.put_number-last.ensures.next;
 }

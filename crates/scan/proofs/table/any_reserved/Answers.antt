@@ -14,13 +14,13 @@ pub overflow_cast-bytes : goal.overflow_cast-bytes
 overflow_cast-bytes c = omega (arith, judged_byte _ c.loop-i.invariant.1 c.loop-i-test.true)
 
 pub bounds-table-bytes : goal.bounds-table-bytes
-bounds-table-bytes c =  omega (arith, c.requires, judged_byte _ c.loop-i.invariant.1 c.loop-i-test.true)
+bounds-table-bytes c = omega (arith, c.requires, judged_byte _ c.loop-i.invariant.1 c.loop-i-test.true)
 
 pub returns-then-table-bytes-ne0 : goal.returns-then-table-bytes-ne0
-returns-then-table-bytes-ne0 c =  sym (judged_found _ c.loop-i.invariant.1 c.loop-i-test.true c.if-table-bytes-ne0.true)
+returns-then-table-bytes-ne0 c = sym (judged_found _ c.loop-i.invariant.1 c.loop-i-test.true c.if-table-bytes-ne0.true)
 
 pub loop-i-preserved : goal.loop-i-preserved
-loop-i-preserved c =  (omega arith, judged_more _ c.loop-i.invariant.1 c.loop-i-test.true c.if-table-bytes-ne0.false)
+loop-i-preserved c = (omega arith, judged_more _ c.loop-i.invariant.1 c.loop-i-test.true c.if-table-bytes-ne0.false)
 
 pub returns : goal.returns
 returns c = sym (judged_none _ c.loop-i.invariant.1 (omega arith))

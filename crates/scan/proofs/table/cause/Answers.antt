@@ -8,7 +8,7 @@ pub returns-then-short : goal.returns-then-short
 returns-then-short c = cause_short _ _ (⊎_elim (λ w. inl w.if-short.true) (λ w. inr w.if-table-lt-LETTER_BYTES.true-raw) c.then-short.branch-raw)
 
 pub returns-then-reserved : goal.returns-then-reserved
-returns-then-reserved c =  cause_reserved _ _ c.if-short.false c.if-table-lt-LETTER_BYTES.false-raw (sym c.any_reserved-reserved.ensures ∙ c.if-reserved.true)
+returns-then-reserved c = cause_reserved _ _ c.if-short.false c.if-table-lt-LETTER_BYTES.false-raw (sym c.any_reserved-reserved.ensures ∙ c.if-reserved.true)
 
 pub returns-then-unsettled : goal.returns-then-unsettled
 returns-then-unsettled c =

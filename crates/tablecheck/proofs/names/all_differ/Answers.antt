@@ -11,11 +11,10 @@ loop-a-init c = (search rules, every_none _)
 
 pub returns-then-not-is_new : goal.returns-then-not-is_new
 unfolding different
-returns-then-not-is_new c =  every_off _ _ _ c.loop-a-test.true (sym c.is_new.ensures ∙ not-true c.is_new.result c.if-not-is_new.true-raw)
+returns-then-not-is_new c = every_off _ _ _ c.loop-a-test.true (sym c.is_new.ensures ∙ not-true c.is_new.result c.if-not-is_new.true-raw)
 
 pub loop-a-preserved : goal.loop-a-preserved
-loop-a-preserved c =
-    (
+loop-a-preserved c = (
   search rules,
   every_on _ _ c.loop-a.invariant.1
       (sym c.is_new.ensures ∙ not-false c.is_new.result c.if-not-is_new.false-raw),
@@ -23,4 +22,4 @@ loop-a-preserved c =
 
 pub returns : goal.returns
 unfolding different
-returns c =  every_end _ _ _ c.loop-a.invariant.0 c.loop-a-test.false c.loop-a.invariant.1
+returns c = every_end _ _ _ c.loop-a.invariant.0 c.loop-a-test.false c.loop-a.invariant.1

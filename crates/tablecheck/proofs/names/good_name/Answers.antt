@@ -9,10 +9,10 @@ use borrow.Author.Rules.{rules}
 use Rattle.tablecheck.proofs.names.good_name.Goals as goal
 
 pub returns-then-end-from : goal.returns-then-end-from
-returns-then-end-from c =  good_none _ c.args.a _ _ c.name_at-from.ensures c.name_end-end.ensures (letters c.args.table.now) c.if-end-from.true
+returns-then-end-from c = good_none _ c.args.a _ _ c.name_at-from.ensures c.name_end-end.ensures (letters c.args.table.now) c.if-end-from.true
 
 pub own_bytes-requires : goal.own_bytes-requires
-own_bytes-requires c =  (omega (arith, name_fits c.args.spellings.now c.args.a), search rules)
+own_bytes-requires c = (omega (arith, name_fits c.args.spellings.now c.args.a), search rules)
 
 pub returns-then-not-own_bytes : goal.returns-then-not-own_bytes
 returns-then-not-own_bytes c =

@@ -15,12 +15,11 @@ returns-then-not-good_name c =
     (sym c.good_name.ensures ∙ not-true c.good_name.result c.if-not-good_name.true-raw)
 
 pub loop-a-preserved : goal.loop-a-preserved
-loop-a-preserved c =
-    (
+loop-a-preserved c = (
   search rules,
   every_on _ _ c.loop-a.invariant.1
       (sym c.good_name.ensures ∙ not-false c.good_name.result c.if-not-good_name.false-raw),
 )
 
 pub returns : goal.returns
-returns c =  every_end _ _ _ c.loop-a.invariant.0 c.loop-a-test.false c.loop-a.invariant.1
+returns c = every_end _ _ _ c.loop-a.invariant.0 c.loop-a-test.false c.loop-a.invariant.1

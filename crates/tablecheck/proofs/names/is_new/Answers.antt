@@ -14,4 +14,4 @@ pub loop-b-preserved : goal.loop-b-preserved
 loop-b-preserved c = (search rules, every_on _ _ c.loop-b.invariant.1 (ap not (sym c.same_name.ensures ∙ c.if-same_name.false)))
 
 pub returns : goal.returns
-returns c =  every_end _ _ _ c.loop-b.invariant.0 c.loop-b-test.false c.loop-b.invariant.1
+returns c = every_end _ _ _ c.loop-b.invariant.0 c.loop-b-test.false c.loop-b.invariant.1

@@ -26,4 +26,4 @@ loop-i-preserved c =
     (own_yes fold _ _ c.if-b-eq0.false c.fold.ensures c.if-fold-b.false) ∙ c.loop-i.invariant
 
 pub returns : goal.returns
-returns c =  all_end (own (letters c.args.table.now)) _ _ _ c.loop-i-test.false ∙ c.loop-i.invariant
+returns c = all_end (own (letters c.args.table.now)) _ _ _ c.loop-i-test.false ∙ c.loop-i.invariant

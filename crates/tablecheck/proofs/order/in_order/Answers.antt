@@ -11,8 +11,7 @@ returns-then-count-eq0 c =
     c.if-count-eq0.true
 
 pub loop-j-preserved : goal.loop-j-preserved
-loop-j-preserved c =
-    (
+loop-j-preserved c = (
   search rules,
   search rules,
   rules_on_lem _ _ c.args.n _ _

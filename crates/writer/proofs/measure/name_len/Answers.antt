@@ -13,6 +13,6 @@ returns-then-a-n c =
 
 pub returns : goal.returns
 returns c = record {
-      len = none_long _ _ _ c.if-a-n.false;
-      bound = search rules;
-    }
+  len = none_long _ _ _ c.if-a-n.false;
+  bound = search rules;
+}

@@ -9,12 +9,11 @@ use borrow.Author.Rules.{rules}
 use Rattle.writer.proofs.measure.rest_len.Goals as goal
 
 pub loop-a-init : goal.loop-a-init
-loop-a-init c =
-    (
-      (walk_range names c.args.from c.next-a.result (row (part c.args.at body_words c.args.bodies.now)) (omega arith) c.next-a.ensures).1,
-      search rules,
-      rest_start c.args.spellings.now c.args.n c.args.bodies.now c.args.at _ _ (omega arith) c.next-a.ensures,
-    )
+loop-a-init c = (
+  (walk_range names c.args.from c.next-a.result (row (part c.args.at body_words c.args.bodies.now)) (omega arith) c.next-a.ensures).1,
+  search rules,
+  rest_start c.args.spellings.now c.args.n c.args.bodies.now c.args.at _ _ (omega arith) c.next-a.ensures,
+)
 
 pub loop-a-smaller : goal.loop-a-smaller
 loop-a-smaller c =
@@ -35,7 +34,7 @@ loop-a-preserved c =
     )
 
 pub returns : goal.returns
-returns c =  record {
-      len = rest_end c.args.spellings.now c.args.n c.args.bodies.now c.args.at _ _ _ c.loop-a.invariant.2 c.loop-a-test.false;
-      bound = search rules;
-    }
+returns c = record {
+  len = rest_end c.args.spellings.now c.args.n c.args.bodies.now c.args.at _ _ _ c.loop-a.invariant.2 c.loop-a-test.false;
+  bound = search rules;
+}

@@ -5,7 +5,7 @@ use Rattle.writer.proofs.Rules.{name_inside, name_room, name_put, name_next, non
 use Rattle.writer.proofs.put.put_name.Goals as goal
 
 pub slice_bounds-copy-end : goal.slice_bounds-copy-end
-slice_bounds-copy-end c =  name_inside _ c.args.n c.args.a _ _ c.name_at-from.ensures c.name_end-end.ensures c.if-a-n.true c.requires.0 c.requires.1
+slice_bounds-copy-end c = name_inside _ c.args.n c.args.a _ _ c.name_at-from.ensures c.name_end-end.ensures c.if-a-n.true c.requires.0 c.requires.1
 
 pub copy-requires : goal.copy-requires
 copy-requires c =

@@ -10,13 +10,12 @@ use borrow.Author.Rules.{rules}
 use Rattle.writer.proofs.put.put_rest.Goals as goal
 
 pub loop-a-init : goal.loop-a-init
-loop-a-init c =
-    (
-      (walk_range names c.args.from c.next-a.result (Row.row (part c.args.row body_words c.args.bodies.now)) (omega arith) c.next-a.ensures).1,
-      search rules,
-      rest_start c.args.spellings.now c.args.n c.args.bodies.now c.args.row c.args.from c.args.text.now c.args.at
-          c.requires.from_in_bounds _ (omega arith) c.next-a.ensures,
-    )
+loop-a-init c = (
+  (walk_range names c.args.from c.next-a.result (Row.row (part c.args.row body_words c.args.bodies.now)) (omega arith) c.next-a.ensures).1,
+  search rules,
+  rest_start c.args.spellings.now c.args.n c.args.bodies.now c.args.row c.args.from c.args.text.now c.args.at
+      c.requires.from_in_bounds _ (omega arith) c.next-a.ensures,
+)
 
 pub bounds-text-o : goal.bounds-text-o
 bounds-text-o c =
@@ -32,13 +31,12 @@ overflow_add-o c =
     )
 
 pub put_name-o-requires : goal.put_name-o-requires
-put_name-o-requires c =
-    (
-      c.requires.n_le_names.0,
-      c.requires.n_le_names.1,
-      rest_room c.args.spellings.now c.args.n c.args.bodies.now c.args.row c.args.from c.args.text.now c.args.at c.requires.from_in_bounds _ _ _
-          c.loop-a.invariant.2 c.loop-a-test.true,
-    )
+put_name-o-requires c = (
+  c.requires.n_le_names.0,
+  c.requires.n_le_names.1,
+  rest_room c.args.spellings.now c.args.n c.args.bodies.now c.args.row c.args.from c.args.text.now c.args.at c.requires.from_in_bounds _ _ _
+      c.loop-a.invariant.2 c.loop-a-test.true,
+)
 
 pub loop-a-smaller : goal.loop-a-smaller
 loop-a-smaller c =

@@ -8,7 +8,7 @@ pub overflow_cast-heads : goal.overflow_cast-heads
 overflow_cast-heads c = omega (arith, c.type_inv.heads c.args.j)
 
 pub put_name-colon-requires : goal.put_name-colon-requires
-put_name-colon-requires c =  (c.requires.n_le_names.0, c.requires.n_le_names.2, head_room c.args.spellings.now c.args.n c.args.heads.now c.args.bodies.now c.args.j c.args.text.now c.args.at c.requires.j_in_bounds)
+put_name-colon-requires c = (c.requires.n_le_names.0, c.requires.n_le_names.2, head_room c.args.spellings.now c.args.n c.args.heads.now c.args.bodies.now c.args.j c.args.text.now c.args.at c.requires.j_in_bounds)
 
 pub bounds-text-colon : goal.bounds-text-colon
 bounds-text-colon c =
@@ -22,13 +22,12 @@ overflow_add-colon c =
     omega arith
 
 pub put_name-next-requires : goal.put_name-next-requires
-put_name-next-requires c =
-    (
-      c.requires.n_le_names.0,
-      c.requires.n_le_names.2,
-      first_room c.args.spellings.now c.args.n c.args.heads.now c.args.bodies.now c.args.j c.args.text.now c.args.at c.requires.j_in_bounds
-          _ _ c.put_name-colon.ensures.text c.put_name-colon.ensures.next _ _ c.body_at-row.ensures c.next-a.ensures c.if-a-lt-NAMES.true,
-    )
+put_name-next-requires c = (
+  c.requires.n_le_names.0,
+  c.requires.n_le_names.2,
+  first_room c.args.spellings.now c.args.n c.args.heads.now c.args.bodies.now c.args.j c.args.text.now c.args.at c.requires.j_in_bounds
+      _ _ c.put_name-colon.ensures.text c.put_name-colon.ensures.next _ _ c.body_at-row.ensures c.next-a.ensures c.if-a-lt-NAMES.true,
+)
 
 pub put_rest-requires : goal.put_rest-requires
 put_rest-requires c =

@@ -6,13 +6,12 @@ use borrow.Author.Rules.{rules}
 use Rattle.writer.proofs.put.put_rules.Goals as goal
 
 pub loop-j-init : goal.loop-j-init
-loop-j-init c =
-    (
-      search rules,
-      refl,
-      lines_none (names_in c.args.spellings.now c.args.n) (rule_tables c.args.heads.now c.args.bodies.now) c.args.m c.args.text.now c.args.at
-          c.requires.m_in_bounds,
-    )
+loop-j-init c = (
+  search rules,
+  refl,
+  lines_none (names_in c.args.spellings.now c.args.n) (rule_tables c.args.heads.now c.args.bodies.now) c.args.m c.args.text.now c.args.at
+      c.requires.m_in_bounds,
+)
 
 pub put_rule-end-requires : goal.put_rule-end-requires
 put_rule-end-requires c =

@@ -10,7 +10,7 @@ loop-i-preserved c =
     (⊎_elim (λ w. at_tab _ w.if-b-ne-TAB.false-raw) (λ w. at_space _ w.if-b-ne-SPACE.false) c.else-b-ne-SPACE.branch-raw) c.loop-i.invariant
 
 pub returns-after-loop-i : goal.returns-after-loop-i
-returns-after-loop-i c =  set_to _ _ _ (past_end blank c.args.text.now c.loop-i.i _ c.loop-i-test.false c.loop-i.invariant)
+returns-after-loop-i c = set_to _ _ _ (past_end blank c.args.text.now c.loop-i.i _ c.loop-i-test.false c.loop-i.invariant)
 
 pub returns-then-b-ne-TAB : goal.returns-then-b-ne-TAB
 returns-then-b-ne-TAB c =

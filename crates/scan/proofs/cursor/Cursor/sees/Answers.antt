@@ -5,9 +5,9 @@ use Rattle.scan.proofs.cursor.Cursor.sees.Goals as goal
 pub returns-then-at-text : goal.returns-then-at-text
 returns-then-at-text c =
     let a = c.args in
-        sees_in a.text.now a.self.at a.b c.if-at-text.true
+    sees_in a.text.now a.self.at a.b c.if-at-text.true
 
 pub returns-else-at-text : goal.returns-else-at-text
 returns-else-at-text c =
     let a = c.args in
-        sees_past a.text.now a.self.at a.b c.if-at-text.false
+    sees_past a.text.now a.self.at a.b c.if-at-text.false
