@@ -15,8 +15,7 @@ use Rattle.sets.proofs.Logic.{either, clash, not-true, and_left, and_right, and_
 use Rattle.grammar.specs.Bytes.{Bytes, Among}
 use Rattle.grammar.specs.Grammar.{Clause}
 use Rattle.tables.specs.Numbering.{same_bytes, place, meet_all, standing, names_of}
-use Rattle.tables.specs.Repeats.{SameRule, ClauseIn, Repeat, no_clause, among, all_among, same_rule, repeats, keep, kept_after, kept}
-use Rattle.tables.specs.Claims.{Keeps}
+use Rattle.tables.specs.Repeats.{SameRule, ClauseIn, Repeat, no_clause, among, all_among, same_rule, repeats, keep, kept_after, kept, Keeps}
 use Rattle.tables.proofs.Numbering.{same_bytes_eq, same_bytes_refl, meet_known, names_append, names_more, names_met, among_left, among_right, among_split}
 
 -- Tests and statements.

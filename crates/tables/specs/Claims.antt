@@ -1,6 +1,6 @@
 -- What is claimed of reading and numbering. The theorems are in proofs/Theorems.antt.
 -- Assumes nothing.
-use Rattle.std.specs.Prelude.{◌≡◌, ◌⊎◌, ◌↔◌, true, false, List, [], ◌∷◌, ◌++◌, ℕ, ◌<◌, ◌≤◌, length, get_or, drop, replicate}
+use Rattle.std.specs.Prelude.{◌≡◌, ◌⊎◌, ◌↔◌, false, List, [], ◌∷◌, ◌++◌, ℕ, ◌<◌, ◌≤◌, length, get_or, drop, replicate}
 use Rattle.limits.specs.Book.{text_bytes, rules, name_area, body_area}
 use Rattle.limits.specs.Cause.{OneOf, fault_causes, letter_causes, line_causes, kept_causes, read_causes}
 use Rattle.program.specs.Program.{WellFormed}
@@ -8,24 +8,8 @@ use Rattle.grammar.specs.Bytes.{Bytes, Among, letters}
 use Rattle.grammar.specs.Letters.{FoldTable, LettersJudged}
 use Rattle.grammar.specs.Grammar.{Clause}
 use Rattle.tables.specs.Numbering.{place, standing, names_of, program_of}
-use Rattle.tables.specs.Repeats.{SameRule, ClauseIn, Repeat, no_clause, repeats, kept}
 use Rattle.tables.specs.Reading.{read, refused, book_of, reading, Book, FirstFault, Refusal}
 use Rattle.tables.specs.Areas.{Areas, Outcome, short, tables_of, refusal, read_call}
-
--- the rules kept of the clauses said
-pub record Keeps (said : List Clause) : Type 0 where
-  -- the test by which they are kept is "the head and body set of an earlier one"
-  pub repeat : (cs : List Clause) (c : Clause) → (repeats cs c ≡ true) ↔ Repeat cs c
-  -- each clause said is kept, or its rule is that of a kept one; and nothing else is kept
-  pub twin : (c : Clause) → ClauseIn c said → Repeat (kept said) c
-  pub from : (c : Clause) → ClauseIn c (kept said) → ClauseIn c said
-  -- no two kept ones are the same rule
-  pub apart : (i j : ℕ) → i < j → j < length (kept said) → SameRule (get_or (kept said) i no_clause) (get_or (kept said) j no_clause) → ⊥
-  -- names and their numbers are those of all clauses, those dropped too
-  pub names : names_of (kept said) ≡ names_of said
-  -- what is kept is kept again; clauses said twice over leave what they leave once
-  pub again : kept (kept said) ≡ kept said
-  pub twice : kept (said ++ said) ≡ kept said
 
 -- texts are accepted and refused as the grammar says, whatever their length
 pub record Judged (fold : ℕ → ℕ) : Type 0 where

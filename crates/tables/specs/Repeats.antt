@@ -1,10 +1,10 @@
 -- "A rule with the head and body set of an earlier one is dropped while reading" (document 02, 2.3): the rules kept of the clauses that lines say.
 -- Assumes nothing.
-use Rattle.std.specs.Prelude.{◌≡◌, Bool, true, false, ◌&&◌, ◌||◌, ◌⊎◌, List, [], ◌∷◌, ◌++◌}
+use Rattle.std.specs.Prelude.{◌≡◌, Bool, true, false, ◌&&◌, ◌||◌, ◌⊎◌, ◌↔◌, List, [], ◌∷◌, ◌++◌, ℕ, ◌<◌, length, get_or}
 use Rattle.sets.specs.Set.{pick}
 use Rattle.grammar.specs.Bytes.{Bytes, Among}
 use Rattle.grammar.specs.Grammar.{Clause}
-use Rattle.tables.specs.Numbering.{same_bytes}
+use Rattle.tables.specs.Numbering.{same_bytes, names_of}
 
 -- Stated.
 
@@ -60,3 +60,20 @@ kept_after cs (c ∷ said) = kept_after (keep cs c) said
 -- the rules kept of the clauses that a book's lines say, in order
 abbrev pub kept : List Clause → List Clause
 kept said = kept_after [] said
+
+-- Claimed; proved in proofs/Repeats.antt.
+
+-- the rules kept of the clauses said
+pub record Keeps (said : List Clause) : Type 0 where
+  -- the test by which they are kept is "the head and body set of an earlier one"
+  pub repeat : (cs : List Clause) (c : Clause) → (repeats cs c ≡ true) ↔ Repeat cs c
+  -- each clause said is kept, or its rule is that of a kept one; and nothing else is kept
+  pub twin : (c : Clause) → ClauseIn c said → Repeat (kept said) c
+  pub from : (c : Clause) → ClauseIn c (kept said) → ClauseIn c said
+  -- no two kept ones are the same rule
+  pub apart : (i j : ℕ) → i < j → j < length (kept said) → SameRule (get_or (kept said) i no_clause) (get_or (kept said) j no_clause) → ⊥
+  -- names and their numbers are those of all clauses, those dropped too
+  pub names : names_of (kept said) ≡ names_of said
+  -- what is kept is kept again; clauses said twice over leave what they leave once
+  pub again : kept (kept said) ≡ kept said
+  pub twice : kept (said ++ said) ≡ kept said
