@@ -20,7 +20,6 @@ use Rattle.grammar.specs.Grammar.{Clause, fault, Says}
 use Rattle.grammar.proofs.Classes.{fault_cause}
 use Rattle.grammar.proofs.Letters.{letters_judged, letters_pass, letters_cause_lem, letters_other}
 use Rattle.tables.specs.Numbering.{names_of}
-use Rattle.tables.specs.Repeats.{kept}
 use Rattle.tables.specs.Reading.{Reading, read, refused, reading, Book, LineRefused, FirstFault, Refusal}
 use Rattle.areas.specs.Area.{filled}
 use Rattle.tables.specs.Areas.{Areas, Outcome, name_rows, head_rows, body_rows, filled_with, short, tables_of, refusal, outcome, read_call}
@@ -48,15 +47,15 @@ outcome_refused k line old = refl
 pub refused_cause : (fold : ℕ → ℕ) (cs : List Clause) (s : Bytes) (q : ℕ) → LineRefused fold cs s q → OneOf q line_causes
 unfolding LineRefused without
 refused_cause fold cs s q (inl x) = one_left q fault_causes full_causes (fault_cause fold s q x)
-refused_cause fold cs s q (inr (c, says, new, inl x)) = one_found 7 q line_causes refl x.0
-refused_cause fold cs s q (inr (c, says, new, inr x)) = one_found 6 q line_causes refl x.0
+refused_cause fold cs s q (inr (c, says, inl x)) = one_found 7 q line_causes refl x.0
+refused_cause fold cs s q (inr (c, says, inr x)) = one_found 6 q line_causes refl x.0
 
 -- a text that is refused has one of the causes of a text
 pub refusal_cause : (fold : ℕ → ℕ) (t : Bytes) (q line : ℕ) → Refusal fold t q line → OneOf q text_causes
 unfolding Refusal without
 refusal_cause fold t q line (inl x) = one_found 3 q text_causes refl x.0
 refusal_cause fold t q line (inr (inl x)) = one_found 4 q text_causes refl x.0
-refusal_cause fold t q line (inr (inr x)) = one_right q whole_causes line_causes (refused_cause fold (kept x.said) x.here q x.refused_for)
+refusal_cause fold t q line (inr (inr x)) = one_right q whole_causes line_causes (refused_cause fold x.cs x.here q x.refused_for)
 
 -- so its number is not 0
 pub refusal_some : (fold : ℕ → ℕ) (t : Bytes) (q line : ℕ) → Refusal fold t q line → q ≡ 0 → ⊥
@@ -77,7 +76,7 @@ pub refusal_placed : (fold : ℕ → ℕ) (t : Bytes) (k line : ℕ) → Refusal
 unfolding Refusal without
 refusal_placed fold t k line (inl x) = inl (x.1, one_found 3 k kept_causes refl x.0)
 refusal_placed fold t k line (inr (inl x)) = inl (x.1, one_found 4 k kept_causes refl x.0)
-refusal_placed fold t k line (inr (inr x)) = inr (λ z. omega (arith, x.number), refused_cause fold (kept x.said) x.here k x.refused_for)
+refusal_placed fold t k line (inr (inr x)) = inr (λ z. omega (arith, x.number), refused_cause fold x.cs x.here k x.refused_for)
 
 refuses_placed : (fold : ℕ → ℕ) (t : Bytes) (k line : ℕ) → Refuses fold t k line → Placed k line
 unfolding without
@@ -91,10 +90,10 @@ refusal_fault fold t k line m (inl x) = absurd (other 3 k fault_causes refl m x.
 refusal_fault fold t k line m (inr (inl x)) = absurd (other 4 k fault_causes refl m x.0)
 refusal_fault fold t k line m (inr (inr x)) = (x, of_line x.refused_for)
   where
-    of_line : LineRefused fold (kept x.said) x.here k → Says fold x.here (fault k)
+    of_line : LineRefused fold x.cs x.here k → Says fold x.here (fault k)
     of_line (inl d) = d
-    of_line (inr (c, says, new, inl (e, full))) = absurd (other 7 k fault_causes refl m e)
-    of_line (inr (c, says, new, inr (e, room, many))) = absurd (other 6 k fault_causes refl m e)
+    of_line (inr (c, says, inl (e, full))) = absurd (other 7 k fault_causes refl m e)
+    of_line (inr (c, says, inr (e, room, many))) = absurd (other 6 k fault_causes refl m e)
 
 pub fault_refusal : (fold : ℕ → ℕ) (t : Bytes) (k line : ℕ) → FirstFault fold t k line → Refusal fold t k line
 unfolding Refusal

@@ -22,7 +22,6 @@ use Rattle.tables.specs.Areas.{nonzero}
 use Rattle.tables.specs.Writing.{own}
 use Rattle.tables.proofs.Numbering.{among_split, names_from_lem}
 use Rattle.tables.proofs.Encoding.{AllFine}
-use Rattle.tables.proofs.Repeats.{kept_standing}
 use Rattle.tables.proofs.Judging.{judging}
 
 -- a folded name: 1 to 32 bytes, none of them zero, each its own entry
@@ -101,11 +100,6 @@ module _ (fold : ℕ → ℕ) (folding : Folding fold) where
       ⊎_elim (says_good s c q x) (saying_good ls rest says x)
       (among_split x (c.head ∷ c.body) (standing rest) (subst (λ (ds : List Clause). Among x (standing ds)) e m))
 
-  -- the names of a book: those kept are those said
-  pub book_good : (t : Bytes) (cs : List Clause) → Book fold t cs → (x : Bytes) → Among x (standing cs) → Good fold x
-  book_good t cs b x m =
-      saying_good b.ls b.said b.says x (kept_standing b.said x (subst (λ (ds : List Clause). Among x (standing ds)) b.keeps m))
-
   module _ (forms : Classified fold) where
     -- the names of a line by its form
     pub form_good : (s : Bytes) (c : Clause) → form_of fold s ≡ rule c → (x : Bytes) → Among x (c.head ∷ c.body) → Good fold x
@@ -116,7 +110,7 @@ module _ (fold : ℕ → ℕ) (folding : Folding fold) where
       pub read_good : (t : Bytes) (cs : List Clause) → book_of fold t ≡ read cs → (x : Bytes) → Among x (standing cs) → Good fold x
       read_good t cs q =
           let b : Book fold t cs = ((judging fold forms cuts).accepted t cs).0 q in
-          book_good t cs b
+          saying_good b.ls cs b.says
 
       -- by number
       pub read_good_at : (t : Bytes) (cs : List Clause) → book_of fold t ≡ read cs

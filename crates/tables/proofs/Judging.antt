@@ -18,7 +18,7 @@ use Rattle.grammar.specs.Grammar.{Clause, Text, mark, Marked, Ended}
 use Rattle.grammar.specs.Lines.{lines}
 use Rattle.grammar.specs.Claims.{Classified, Cut}
 use Rattle.tables.specs.Numbering.{same_bytes, names_of}
-use Rattle.tables.specs.Reading.{read, refused, Fits, Book, Refusal, read_lines, marked, ended, book_of, reading}
+use Rattle.tables.specs.Reading.{read, refused, Saying, Fits, Book, Refusal, read_lines, marked, ended, book_of, reading}
 use Rattle.tables.specs.Claims.{Judged, Reads}
 use Rattle.tables.proofs.Numbering.{same_bytes_eq, same_bytes_refl, names_none}
 use Rattle.tables.proofs.Loop.{read_refused, refused_number, refused_line, Passed, passed, Stopped, stopped, read_to_refusal, read_all}
@@ -108,9 +108,7 @@ module _ (fold : ℕ → ℕ) where
         record {
           ls = lines (drop (length mark) t);
           text = cuts.whole t (marked_find t m) (ended_find t e);
-          said = r.es;
-          says = r.says;
-          keeps = r.whole;
+          says = subst (λ (xs : List Clause). Saying fold (lines (drop (length mark) t)) xs) (sym r.whole) r.says;
           fits = r.fits;
         })
         (λ e. read_refused cs 4 0 (sym q ∙ book_unended t m e)))
@@ -124,9 +122,7 @@ module _ (fold : ℕ → ℕ) where
 
     -- and a book is read
     book_read : (t : Bytes) (cs : List Clause) → Book fold t cs → book_of fold t ≡ read cs
-    book_read t cs b =
-        text_lines t b.ls b.text ∙ read_all fold forms b.ls [] b.said 2 b.says (subst Fits b.keeps b.fits)
-        ∙ ap read (sym b.keeps)
+    book_read t cs b = text_lines t b.ls b.text ∙ read_all fold forms b.ls [] cs 2 b.says b.fits
 
     -- what is refused has that refusal
     refused_refusal : (t : Bytes) (k line : ℕ) → book_of fold t ≡ refused k line → Refusal fold t k line
@@ -143,7 +139,7 @@ module _ (fold : ℕ → ℕ) where
           here = r.here;
           below = r.below;
           text = subst (Text t) r.whole (cuts.whole t (marked_find t m) (ended_find t e));
-          said = r.es;
+          cs = r.es;
           says = r.says;
           fits = r.fits;
           refused_for = r.refused_for;
@@ -172,7 +168,7 @@ module _ (fold : ℕ → ℕ) where
         ∙ ap (λ (a : ℕ). refused a 0) (sym j) ∙ ap (refused k) (sym at)
     refusal_refused t k line (inr (inr b)) =
         text_lines t (b.above ++ (b.here ∷ b.below)) b.text
-        ∙ read_to_refusal fold forms b.above b.below b.here [] b.said 2 k b.says b.fits b.refused_for
+        ∙ read_to_refusal fold forms b.above b.below b.here [] b.cs 2 k b.says b.fits b.refused_for
         ∙ ap (refused k) (sym b.number)
 
     -- texts are accepted and refused as the grammar says

@@ -2,7 +2,7 @@
 -- Assumes nothing.
 use mathlib.Core.Path.{◌≡◌, refl, sym, ap, ap₂, ◌∙◌, subst}
 use mathlib.Core.Logic.{inl, inr}
-use mathlib.Core.List.{List, [], ◌∷◌, ◌++◌, append-nil}
+use mathlib.Core.List.{List, [], ◌∷◌, ◌++◌, append-nil, append_assoc}
 use Prim.Native.Nat.{ℕ, suc, ◌+◌, ◌≤◌, ◌<◌}
 use native.Mathlib.Omega.{arith}
 use lib.Dec.{eqb, leb, ltb}
@@ -18,10 +18,8 @@ use Rattle.grammar.specs.Grammar.{Clause, Form, silent, rule, fault, Says}
 use Rattle.grammar.specs.Lines.{form_of}
 use Rattle.grammar.specs.Claims.{Classified}
 use Rattle.tables.specs.Numbering.{names_of}
-use Rattle.tables.specs.Repeats.{repeats, keep, kept_after}
-use Rattle.tables.specs.Reading.{read, refused, Saying, Fits, LineRefused, new_cause, line_cause, taken, read_lines}
+use Rattle.tables.specs.Reading.{read, refused, Saying, Fits, LineRefused, line_cause, taken, read_lines}
 use Rattle.tables.proofs.Numbering.{names_le}
-use Rattle.tables.proofs.Repeats.{by_repeat, unrepeated_test, unrepeated_none, keep_repeat, keep_new, after_append, after_none, after_one, after_on, after_more}
 
 -- what is read is not refused
 pub read_refused : {X : Type 0} (cs : List Clause) (k line : ℕ) → read cs ≡ refused k line → X
@@ -47,49 +45,35 @@ by_form (fault k) s r w = w k refl
 
 -- Causes of a rule's line.
 
--- a repeat has none
-pub cause_repeat : (cs : List Clause) (c : Clause) → repeats cs c ≡ true → line_cause cs (rule c) ≡ 0
+-- 256 rules are taken
+pub cause_rules : (cs : List Clause) (c : Clause) → rules ≤ length cs → line_cause cs (rule c) ≡ 7
 unfolding line_cause
-cause_repeat cs c e = pick_true 0 (new_cause cs c) e
+cause_rules cs c l = pick_true 7 (pick (ltb names (length (names_of (cs ++ (c ∷ []))))) 6 0) (le-leb rules (length cs) l)
 
--- a rule that repeats none of them
-module _ (cs : List Clause) (c : Clause) (new : repeats cs c ≡ false) where
-  cause_new : line_cause cs (rule c) ≡ new_cause cs c
-  unfolding line_cause
-  cause_new = pick_false 0 (new_cause cs c) new
+-- the names would be over 128
+pub cause_names : (cs : List Clause) (c : Clause) → length cs < rules → names < length (names_of (cs ++ (c ∷ []))) → line_cause cs (rule c) ≡ 6
+unfolding line_cause
+cause_names cs c l m =
+    pick_false 7 (pick (ltb names (length (names_of (cs ++ (c ∷ []))))) 6 0) (lt-leb rules (length cs) l)
+    ∙ pick_true 6 0 (lt-ltb names (length (names_of (cs ++ (c ∷ [])))) m)
 
-  -- 256 rules are taken
-  pub cause_rules : rules ≤ length cs → line_cause cs (rule c) ≡ 7
-  unfolding new_cause
-  cause_rules l = cause_new ∙ pick_true 7 (pick (ltb names (length (names_of (cs ++ (c ∷ []))))) 6 0) (le-leb rules (length cs) l)
+-- neither
+pub cause_none : (cs : List Clause) (c : Clause) → length cs < rules → length (names_of (cs ++ (c ∷ []))) ≤ names → line_cause cs (rule c) ≡ 0
+unfolding line_cause
+cause_none cs c l m =
+    pick_false 7 (pick (ltb names (length (names_of (cs ++ (c ∷ []))))) 6 0) (lt-leb rules (length cs) l)
+    ∙ pick_false 6 0 (le-ltb names (length (names_of (cs ++ (c ∷ [])))) m)
 
-  -- the names would be over 128
-  pub cause_names : length cs < rules → names < length (names_of (cs ++ (c ∷ []))) → line_cause cs (rule c) ≡ 6
-  unfolding new_cause
-  cause_names l m =
-      cause_new ∙ pick_false 7 (pick (ltb names (length (names_of (cs ++ (c ∷ []))))) 6 0) (lt-leb rules (length cs) l)
-      ∙ pick_true 6 0 (lt-ltb names (length (names_of (cs ++ (c ∷ [])))) m)
-
-  -- neither
-  pub cause_none : length cs < rules → length (names_of (cs ++ (c ∷ []))) ≤ names → line_cause cs (rule c) ≡ 0
-  unfolding new_cause
-  cause_none l m =
-      cause_new ∙ pick_false 7 (pick (ltb names (length (names_of (cs ++ (c ∷ []))))) 6 0) (lt-leb rules (length cs) l)
-      ∙ pick_false 6 0 (le-ltb names (length (names_of (cs ++ (c ∷ [])))) m)
-
--- a repeat, or one of the three
-pub by_room : {X : Type 0} (cs : List Clause) (c : Clause) → (repeats cs c ≡ true → X)
-    → (repeats cs c ≡ false → rules ≤ length cs → X)
-    → (repeats cs c ≡ false → length cs < rules → names < length (names_of (cs ++ (c ∷ []))) → X)
-    → (repeats cs c ≡ false → length cs < rules → length (names_of (cs ++ (c ∷ []))) ≤ names → X) → X
-by_room cs c repeat full many room =
-    either (repeats cs c) repeat
-    (λ new.
-    either (leb rules (length cs)) (λ e. full new (leb-true rules (length cs) e))
+-- one of the three
+pub by_room : {X : Type 0} (cs : List Clause) (c : Clause) → (rules ≤ length cs → X)
+    → (length cs < rules → names < length (names_of (cs ++ (c ∷ []))) → X)
+    → (length cs < rules → length (names_of (cs ++ (c ∷ []))) ≤ names → X) → X
+by_room cs c full many room =
+    either (leb rules (length cs)) (λ e. full (leb-true rules (length cs) e))
     (λ e.
     let l : length cs < rules = leb-false rules (length cs) e in
-    either (ltb names (length (names_of (cs ++ (c ∷ []))))) (λ d. many new l (ltb-true names (length (names_of (cs ++ (c ∷ [])))) d))
-    (λ d. room new l (ltb-false names (length (names_of (cs ++ (c ∷ [])))) d))))
+    either (ltb names (length (names_of (cs ++ (c ∷ []))))) (λ d. many l (ltb-true names (length (names_of (cs ++ (c ∷ [])))) d))
+    (λ d. room l (ltb-false names (length (names_of (cs ++ (c ∷ [])))) d)))
 
 -- with room for one more clause, they fit with it
 fits_more : (cs : List Clause) (c : Clause) → length cs < rules → length (names_of (cs ++ (c ∷ []))) ≤ names → Fits (cs ++ (c ∷ []))
@@ -102,18 +86,11 @@ fits_less cs ds f = record {
   names_fit = omega (arith, f.names_fit, names_le cs ds);
 }
 
--- and those kept before others
-fits_before : (cs said : List Clause) → Fits (kept_after cs said) → Fits cs
-fits_before cs said f = let p = after_more cs said in fits_less cs p.0 (subst Fits p.1 f)
-
--- where one more fits it has no cause, nor where it is a repeat
-pub fits_cause : (cs : List Clause) (c : Clause) → Fits (keep cs c) → line_cause cs (rule c) ≡ 0
+-- where one more fits it has no cause
+pub fits_cause : (cs : List Clause) (c : Clause) → Fits (cs ++ (c ∷ [])) → line_cause cs (rule c) ≡ 0
 fits_cause cs c f =
-    by_repeat cs c (cause_repeat cs c)
-    (λ new.
-    let g : Fits (cs ++ (c ∷ [])) = subst Fits (keep_new cs c new) f in
-    let l : length cs < rules = omega (arith, g.rules_fit, length-append cs (c ∷ [])) in
-    cause_none cs c new l g.names_fit)
+    let l : length cs < rules = omega (arith, f.rules_fit, length-append cs (c ∷ [])) in
+    cause_none cs c l f.names_fit
 
 module _ (fold : ℕ → ℕ) where
   -- no line is left
@@ -144,9 +121,9 @@ module _ (fold : ℕ → ℕ) where
   read_silent s ls cs line q =
       read_on s ls cs line (ap (line_cause cs) q) ∙ ap (λ (f : Form). read_lines fold ls (taken cs f) (suc line)) q
 
-  -- a rule with room for it is kept, or dropped
+  -- a rule with room for it is put last
   pub read_rule : (s : Bytes) (ls : List Bytes) (cs : List Clause) (line : ℕ) (c : Clause) → form_of fold s ≡ rule c
-      → line_cause cs (rule c) ≡ 0 → read_lines fold (s ∷ ls) cs line ≡ read_lines fold ls (keep cs c) (suc line)
+      → line_cause cs (rule c) ≡ 0 → read_lines fold (s ∷ ls) cs line ≡ read_lines fold ls (cs ++ (c ∷ [])) (suc line)
   unfolding taken
   read_rule s ls cs line c q z =
       read_on s ls cs line (ap (line_cause cs) q ∙ z) ∙ ap (λ (f : Form). read_lines fold ls (taken cs f) (suc line)) q
@@ -157,11 +134,11 @@ module _ (fold : ℕ → ℕ) where
     unfolding without
     nonzero_fault s k d = other 0 k fault_causes refl (forms.causes s k d)
 
-    -- a line that is read on from: the clauses that it says, none or one
+    -- a line that is read on from: the clauses that it adds, none or one
     record Step (s : Bytes) (cs : List Clause) : Type 0 where
       new : List Clause
-      next : taken cs (form_of fold s) ≡ kept_after cs new
-      fits : Fits (kept_after cs new)
+      next : taken cs (form_of fold s) ≡ cs ++ new
+      fits : Fits (cs ++ new)
       says : (ls : List Bytes) (es : List Clause) → Saying fold ls es → Saying fold (s ∷ ls) (new ++ es)
 
     -- each line without a cause is one
@@ -171,29 +148,24 @@ module _ (fold : ℕ → ℕ) where
         by_form (form_of fold s)
         (λ q. record {
           new = [];
-          next = ap (taken cs) q ∙ sym (after_none cs);
-          fits = subst Fits (sym (after_none cs)) ok;
+          next = ap (taken cs) q ∙ sym (append-nil cs);
+          fits = subst Fits (sym (append-nil cs)) ok;
           says = λ ls es m. inl ((forms.forms s silent).1 q, m);
         })
         (λ c q.
-        let kept_with : Fits (keep cs c) → Step s cs =
-        λ f.
-        record {
+        by_room cs c (λ l. absurd (omega (arith, sym (cause_rules cs c l) ∙ sym (ap (line_cause cs) q) ∙ z)))
+        (λ l m. absurd (omega (arith, sym (cause_names cs c l m) ∙ sym (ap (line_cause cs) q) ∙ z)))
+        (λ l m. record {
           new = c ∷ [];
-          next = ap (taken cs) q ∙ sym (after_one cs c);
-          fits = subst Fits (sym (after_one cs c)) f;
+          next = ap (taken cs) q;
+          fits = fits_more cs c l m;
           says = λ ls es n. inr (c, es, (forms.forms s (rule c)).1 q, refl, n);
-        }
-        in
-        by_room cs c (λ e. kept_with (subst Fits (sym (keep_repeat cs c e)) ok))
-        (λ new l. absurd (omega (arith, sym (cause_rules cs c new l) ∙ sym (ap (line_cause cs) q) ∙ z)))
-        (λ new l m. absurd (omega (arith, sym (cause_names cs c new l m) ∙ sym (ap (line_cause cs) q) ∙ z)))
-        (λ new l m. kept_with (subst Fits (sym (keep_new cs c new)) (fits_more cs c l m))))
+        }))
         (λ k q. absurd (nonzero_fault s k ((forms.forms s (fault k)).1 q) (sym (ap (line_cause cs) q) ∙ z)))
 
     -- and the reading goes on with them
     step_on : (s : Bytes) (ls : List Bytes) (cs : List Clause) (line : ℕ) → line_cause cs (form_of fold s) ≡ 0
-        → (p : Step s cs) → read_lines fold (s ∷ ls) cs line ≡ read_lines fold ls (kept_after cs p.new) (suc line)
+        → (p : Step s cs) → read_lines fold (s ∷ ls) cs line ≡ read_lines fold ls (cs ++ p.new) (suc line)
     step_on s ls cs line z p = read_on s ls cs line z ∙ ap (λ (xs : List Clause). read_lines fold ls xs (suc line)) p.next
 
     -- a line is refused for its cause
@@ -204,27 +176,27 @@ module _ (fold : ℕ → ℕ) where
         by_form (form_of fold s) (λ q. absurd (n (ap (line_cause cs) q)))
         (λ c q.
         let says : Says fold s (rule c) = (forms.forms s (rule c)).1 q in
-        by_room cs c (λ e. absurd (n (ap (line_cause cs) q ∙ cause_repeat cs c e)))
-        (λ new l.
+        by_room cs c
+        (λ l.
         let full : length cs ≡ rules = omega (arith, ok.rules_fit) in
-        inr (c, says, unrepeated_none cs c new, inl (ap (line_cause cs) q ∙ cause_rules cs c new l, full)))
-        (λ new l m. inr (c, says, unrepeated_none cs c new, inr (ap (line_cause cs) q ∙ cause_names cs c new l m, l, m)))
-        (λ new l m. absurd (n (ap (line_cause cs) q ∙ cause_none cs c new l m))))
+        inr (c, says, inl (ap (line_cause cs) q ∙ cause_rules cs c l, full)))
+        (λ l m. inr (c, says, inr (ap (line_cause cs) q ∙ cause_names cs c l m, l, m)))
+        (λ l m. absurd (n (ap (line_cause cs) q ∙ cause_none cs c l m))))
         (λ k q. inl (subst (λ (j : ℕ). Says fold s (fault j)) (sym (ap (line_cause cs) q)) ((forms.forms s (fault k)).1 q)))
 
     -- and for nothing else
     refuses_cause : (s : Bytes) (cs : List Clause) (k : ℕ) → LineRefused fold cs s k → (line_cause cs (form_of fold s) ≡ k) × (k ≡ 0 → ⊥)
     unfolding line_cause LineRefused
     refuses_cause s cs k (inl m) = (ap (line_cause cs) ((forms.forms s (fault k)).0 m), nonzero_fault s k m)
-    refuses_cause s cs k (inr (c, m, new, inl (e, full))) =
-        (ap (line_cause cs) ((forms.forms s (rule c)).0 m) ∙ cause_rules cs c (unrepeated_test cs c new) (omega arith) ∙ sym e, λ z. omega arith)
-    refuses_cause s cs k (inr (c, m, new, inr (e, l, many))) =
-        (ap (line_cause cs) ((forms.forms s (rule c)).0 m) ∙ cause_names cs c (unrepeated_test cs c new) l many ∙ sym e, λ z. omega arith)
+    refuses_cause s cs k (inr (c, m, inl (e, full))) =
+        (ap (line_cause cs) ((forms.forms s (rule c)).0 m) ∙ cause_rules cs c (omega arith) ∙ sym e, λ z. omega arith)
+    refuses_cause s cs k (inr (c, m, inr (e, l, many))) =
+        (ap (line_cause cs) ((forms.forms s (rule c)).0 m) ∙ cause_names cs c l many ∙ sym e, λ z. omega arith)
 
     -- Lines that are read to the end.
     pub record Passed (ls : List Bytes) (cs ds : List Clause) : Type 0 where
       pub es : List Clause
-      pub whole : ds ≡ kept_after cs es
+      pub whole : ds ≡ cs ++ es
       pub says : Saying fold ls es
       pub fits : Fits ds
 
@@ -234,19 +206,19 @@ module _ (fold : ℕ → ℕ) where
     unfolding Saying
     passed [] cs line ds ok e =
         let q : cs ≡ ds = read_one cs ds (sym (read_end cs line) ∙ e) in
-        record { es = []; whole = sym q ∙ sym (after_none cs); says = refl; fits = subst Fits q ok }
+        record { es = []; whole = sym q ∙ sym (append-nil cs); says = refl; fits = subst Fits q ok }
     passed (s ∷ ls) cs line ds ok e =
         either (eqb (line_cause cs (form_of fold s)) 0)
         (λ t.
         let z : line_cause cs (form_of fold s) ≡ 0 = eqb-true (line_cause cs (form_of fold s)) 0 t in
         let p : Step s cs = step s cs ok z in
-        let r : Passed ls (kept_after cs p.new) ds =
-        passed ls (kept_after cs p.new) (suc line) ds p.fits
+        let r : Passed ls (cs ++ p.new) ds =
+        passed ls (cs ++ p.new) (suc line) ds p.fits
         (sym (step_on s ls cs line z p) ∙ e)
         in
         record {
           es = p.new ++ r.es;
-          whole = r.whole ∙ sym (after_append cs p.new r.es);
+          whole = r.whole ∙ append_assoc cs p.new r.es;
           says = p.says ls r.es r.says;
           fits = r.fits;
         })
@@ -262,8 +234,8 @@ module _ (fold : ℕ → ℕ) where
       pub es : List Clause
       pub whole : ls ≡ above ++ (here ∷ below)
       pub says : Saying fold above es
-      pub fits : Fits (kept_after cs es)
-      pub refused_for : LineRefused fold (kept_after cs es) here k
+      pub fits : Fits (cs ++ es)
+      pub refused_for : LineRefused fold (cs ++ es) here k
       pub number : at ≡ length above + line
 
     -- what is refused is refused for its first refused line
@@ -276,11 +248,11 @@ module _ (fold : ℕ → ℕ) where
         (λ t.
         let z : line_cause cs (form_of fold s) ≡ 0 = eqb-true (line_cause cs (form_of fold s)) 0 t in
         let p : Step s cs = step s cs ok z in
-        let r : Stopped ls (kept_after cs p.new) (suc line) k at =
-        stopped ls (kept_after cs p.new) (suc line) k at p.fits
+        let r : Stopped ls (cs ++ p.new) (suc line) k at =
+        stopped ls (cs ++ p.new) (suc line) k at p.fits
         (sym (step_on s ls cs line z p) ∙ e)
         in
-        let q : kept_after (kept_after cs p.new) r.es ≡ kept_after cs (p.new ++ r.es) = sym (after_append cs p.new r.es) in
+        let q : (cs ++ p.new) ++ r.es ≡ cs ++ (p.new ++ r.es) = append_assoc cs p.new r.es in
         record {
           above = s ∷ r.above;
           here = r.here;
@@ -302,46 +274,46 @@ module _ (fold : ℕ → ℕ) where
           es = [];
           whole = refl;
           says = refl;
-          fits = subst Fits (sym (after_none cs)) ok;
-          refused_for = subst (λ (j : ℕ). LineRefused fold (kept_after cs []) s j) (refused_number (line_cause cs (form_of fold s)) line k at same)
-              (subst (λ (xs : List Clause). LineRefused fold xs s (line_cause cs (form_of fold s))) (sym (after_none cs)) (cause_refuses s cs ok n));
+          fits = subst Fits (sym (append-nil cs)) ok;
+          refused_for = subst (λ (j : ℕ). LineRefused fold (cs ++ []) s j) (refused_number (line_cause cs (form_of fold s)) line k at same)
+              (subst (λ (xs : List Clause). LineRefused fold xs s (line_cause cs (form_of fold s))) (sym (append-nil cs)) (cause_refuses s cs ok n));
           number = omega (arith, refused_line (line_cause cs (form_of fold s)) line k at same);
         })
 
-    -- lines that say clauses are read through, where the rules kept fit
-    pub read_through : (above rest : List Bytes) (cs es : List Clause) (line : ℕ) → Saying fold above es → Fits (kept_after cs es)
-        → read_lines fold (above ++ rest) cs line ≡ read_lines fold rest (kept_after cs es) (length above + line)
+    -- lines that say clauses are read through, where these fit
+    pub read_through : (above rest : List Bytes) (cs es : List Clause) (line : ℕ) → Saying fold above es → Fits (cs ++ es)
+        → read_lines fold (above ++ rest) cs line ≡ read_lines fold rest (cs ++ es) (length above + line)
     unfolding Saying
     read_through [] rest cs es line e ok =
         let z : line ≡ 0 + line = omega arith in
-        ap₂ (λ (xs : List Clause) (n : ℕ). read_lines fold rest xs n) (sym (after_none cs) ∙ ap (kept_after cs) (sym e)) z
+        ap₂ (λ (xs : List Clause) (n : ℕ). read_lines fold rest xs n) (sym (append-nil cs) ∙ ap (λ (xs : List Clause). cs ++ xs) (sym e)) z
     read_through (s ∷ above) rest cs es line (inl (q, m)) ok =
         let z : length above + suc line ≡ suc (length above) + line = omega arith in
         read_silent s (above ++ rest) cs line ((forms.forms s silent).0 q)
         ∙ read_through above rest cs es (suc line) m ok
-        ∙ ap (read_lines fold rest (kept_after cs es)) z
+        ∙ ap (read_lines fold rest (cs ++ es)) z
     read_through (s ∷ above) rest cs es line (inr (c, ds, q, e, m)) ok =
         let z : length above + suc line ≡ suc (length above) + line = omega arith in
-        let w : kept_after cs es ≡ kept_after (keep cs c) ds = ap (kept_after cs) e ∙ after_on cs c ds in
-        let f : Fits (kept_after (keep cs c) ds) = subst Fits w ok in
-        read_rule s (above ++ rest) cs line c ((forms.forms s (rule c)).0 q) (fits_cause cs c (fits_before (keep cs c) ds f))
-        ∙ read_through above rest (keep cs c) ds (suc line) m f
+        let w : cs ++ es ≡ (cs ++ (c ∷ [])) ++ ds = ap (λ (xs : List Clause). cs ++ xs) e ∙ sym (append_assoc cs (c ∷ []) ds) in
+        let f : Fits ((cs ++ (c ∷ [])) ++ ds) = subst Fits w ok in
+        read_rule s (above ++ rest) cs line c ((forms.forms s (rule c)).0 q) (fits_cause cs c (fits_less (cs ++ (c ∷ [])) ds f))
+        ∙ read_through above rest (cs ++ (c ∷ [])) ds (suc line) m f
         ∙ ap₂ (λ (xs : List Clause) (n : ℕ). read_lines fold rest xs n) (sym w) z
 
     -- so a line that is refused after them stops the reading
     pub read_to_refusal : (above below : List Bytes) (here : Bytes) (cs es : List Clause) (line k : ℕ) → Saying fold above es
-        → Fits (kept_after cs es) → LineRefused fold (kept_after cs es) here k
+        → Fits (cs ++ es) → LineRefused fold (cs ++ es) here k
         → read_lines fold (above ++ (here ∷ below)) cs line ≡ refused k (length above + line)
     read_to_refusal above below here cs es line k m ok b =
-        let q = refuses_cause here (kept_after cs es) k b in
+        let q = refuses_cause here (cs ++ es) k b in
         read_through above (here ∷ below) cs es line m ok
-        ∙ read_stop here below (kept_after cs es) (length above + line) (λ z. q.1 (sym q.0 ∙ z))
+        ∙ read_stop here below (cs ++ es) (length above + line) (λ z. q.1 (sym q.0 ∙ z))
         ∙ ap (λ (j : ℕ). refused j (length above + line)) q.0
 
     -- and without one all is read
-    pub read_all : (ls : List Bytes) (cs es : List Clause) (line : ℕ) → Saying fold ls es → Fits (kept_after cs es)
-        → read_lines fold ls cs line ≡ read (kept_after cs es)
+    pub read_all : (ls : List Bytes) (cs es : List Clause) (line : ℕ) → Saying fold ls es → Fits (cs ++ es)
+        → read_lines fold ls cs line ≡ read (cs ++ es)
     read_all ls cs es line m ok =
         ap (λ (xs : List Bytes). read_lines fold xs cs line) (sym (append-nil ls))
         ∙ read_through ls [] cs es line m ok
-        ∙ read_end (kept_after cs es) (length ls + line)
+        ∙ read_end (cs ++ es) (length ls + line)

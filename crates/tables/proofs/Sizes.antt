@@ -164,20 +164,6 @@ module _ (fold : ℕ → ℕ) (o : Areas) (n m : ℕ) where
   numbers_first h =
       ap (λ (rs : List (Rule ℕ)). orderly 0 (numbers_in rs) && eqb (met_in 0 (numbers_in rs)) n) (rules_first (rules_of o) m 0 (omega arith))
 
-  -- no rule given twice
-  unrepeated_first : m ≤ rules → unrepeated (rules_of o) m ≡ unrepeated (rules_of (stated_tables o)) m
-  unfolding unrepeated among_rules is_rule
-  unrepeated_first h =
-      let here : RuleTables = rules_of o in
-      let cut : RuleTables = rules_of (stated_tables o) in
-      let head : (j : ℕ) → j < rules → get_or here.heads j 0 ≡ get_or cut.heads j 0 = λ j l. sym (get_or-take rules here.heads j 0 l) in
-      let body : (j : ℕ) → j < rules → body_at here j ≡ body_at cut j =
-      λ j l. part_first (j * body_words) body_words body_area here.bodies (omega arith) in
-      let again : RuleTables → ℕ → ℕ → Bool = λ t j i. eqb (get_or t.heads i 0) (get_or t.heads j 0) && same_bytes (body_at t i) (body_at t j) in
-      every_same m (λ j. not (exists j (again here j))) (λ j. not (exists j (again cut j)))
-      (λ j l. ap not (exists_same j (again here j) (again cut j)
-      (λ i k. ap₂ ◌&&◌ (ap₂ eqb (head i (omega arith)) (head j (omega arith))) (ap₂ same_bytes (body i (omega arith)) (body j (omega arith))))))
-
   -- whether tables are in order
   formed_first : well_formed fold o n m ≡ well_formed fold (stated_tables o) n m
   unfolding well_formed
@@ -189,8 +175,7 @@ module _ (fold : ℕ → ℕ) (o : Areas) (n m : ℕ) where
       ap₂ ◌&&◌
       (ap₂ ◌&&◌ (every_same n (good_name fold o.spellings) (good_name fold (take name_area o.spellings)) (λ i l. good_first i (omega arith)))
       (ap₂ ◌&&◌ (different_first a) (zero_first (n * name_bytes) name_area o.spellings (omega arith))))
-      (ap₂ ◌&&◌ (ap₂ ◌&&◌ (zero_first m rules o.heads b) (zero_first (m * body_words) body_area o.bodies (omega arith)))
-      (ap₂ ◌&&◌ (numbers_first b) (unrepeated_first b))))
+      (ap₂ ◌&&◌ (ap₂ ◌&&◌ (zero_first m rules o.heads b) (zero_first (m * body_words) body_area o.bodies (omega arith))) (numbers_first b)))
 
   -- the written text
   text_first : well_formed fold o n m ≡ true

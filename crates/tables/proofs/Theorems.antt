@@ -13,7 +13,6 @@ use Rattle.tables.specs.Numbering.{standing, names_of}
 use Rattle.tables.specs.Reading.{read, book_of}
 use Rattle.tables.specs.Claims.{Judged, Reads, ReadCalls}
 pub use Rattle.tables.proofs.Numbering.{numbers}
-pub use Rattle.tables.proofs.Repeats.{keeping}
 use Rattle.tables.proofs.Judging as judging
 use Rattle.tables.proofs.Calls as calls
 use Rattle.tables.proofs.Encoding.{AllFine}

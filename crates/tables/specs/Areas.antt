@@ -2,7 +2,7 @@
 -- Assumes nothing.
 use Rattle.std.specs.Prelude.{Bool, not, ◌&&◌, ◌||◌, List, [], ◌∷◌, ◌++◌, map, ℕ, zero, suc, ◌-◌, ◌*◌, eqb, leb, ltb, length, get_or, replicate}
 use Rattle.limits.specs.Book.{names, name_bytes, rules, body_words, name_area, body_area}
-use Rattle.sets.specs.Set.{pick, exists}
+use Rattle.sets.specs.Set.{pick}
 use Rattle.areas.specs.Area.{part, filled}
 use Rattle.words.specs.Row.{row, pack}
 use Rattle.program.specs.Program.{Rule, Program}
@@ -10,7 +10,7 @@ use Rattle.grammar.specs.Bytes.{Bytes, letters}
 use Rattle.grammar.specs.Letters.{letters_cause}
 use Rattle.grammar.specs.Grammar.{Clause}
 use Rattle.grammar.specs.Lines.{run}
-use Rattle.tables.specs.Numbering.{same_bytes, names_of, numbered}
+use Rattle.tables.specs.Numbering.{names_of, numbered}
 use Rattle.tables.specs.Reading.{Reading, read, refused, reading}
 
 -- a name area, its heads and its bodies
@@ -132,18 +132,6 @@ names_in area n = names_from area n 0
 -- rule j of the tables
 unfoldable pub rule_at : RuleTables → ℕ → Rule ℕ
 rule_at tables j = record { head = get_or tables.heads j 0; body = row (part (j * body_words) body_words tables.bodies) }
-
--- the row of words of rule j's body
-abbrev pub body_at : RuleTables → ℕ → List ℕ
-body_at tables j = part (j * body_words) body_words tables.bodies
-
--- rule j of the tables has that head and that row
-unfoldable pub is_rule : RuleTables → ℕ → List ℕ → ℕ → Bool
-is_rule tables head row j = eqb (get_or tables.heads j 0) head && same_bytes (body_at tables j) row
-
--- one of the first m rules has them
-unfoldable pub among_rules : RuleTables → ℕ → ℕ → List ℕ → Bool
-among_rules tables m head row = exists m (is_rule tables head row)
 
 -- the k rules from j on
 unfoldable pub rules_from : RuleTables → ℕ → ℕ → List (Rule ℕ)

@@ -1,4 +1,4 @@
--- What a text comes to: the rules of its book, as clauses, or the first cause of refusal with its line.
+-- What a text comes to: the clauses of its book, or the first cause of refusal with its line.
 -- Assumes nothing.
 use Rattle.std.specs.Prelude.{◌≡◌, Bool, ◌⊎◌, List, [], ◌∷◌, ◌++◌, ℕ, suc, ◌+◌, ◌-◌, ◌<◌, ◌≤◌, eqb, leb, ltb, length, get_or, take, drop}
 use Rattle.limits.specs.Book.{text_bytes, names, rules}
@@ -7,7 +7,6 @@ use Rattle.grammar.specs.Bytes.{Bytes, line_end}
 use Rattle.grammar.specs.Grammar.{Clause, Form, silent, rule, fault, Says, Text, mark, Marked, Ended}
 use Rattle.grammar.specs.Lines.{lines, form_of}
 use Rattle.tables.specs.Numbering.{same_bytes, names_of}
-use Rattle.tables.specs.Repeats.{Repeat, repeats, keep, kept}
 
 -- Stated: a book, and each cause of refusal.
 
@@ -23,20 +22,18 @@ pub record Fits (cs : List Clause) : Type 0 where
   pub rules_fit : length cs ≤ rules
   pub names_fit : length (names_of cs) ≤ names
 
--- the text is a book with these rules, its length aside: those kept of the clauses that its lines say
+-- the text is a book with these clauses, its length aside
 pub record Book (fold : ℕ → ℕ) (t : Bytes) (cs : List Clause) : Type 0 where
   pub ls : List Bytes
   pub text : Text t ls
-  pub said : List Clause
-  pub says : Saying fold ls said
-  pub keeps : cs ≡ kept said
+  pub says : Saying fold ls cs
   pub fits : Fits cs
 
--- after the rules cs, the line s is refused under this number: that of its fault; then, where it repeats none of them, 7, then 6
+-- after the clauses cs, the line s is refused under this number: that of its fault, then 7, then 6
 unfoldable pub LineRefused : (ℕ → ℕ) → List Clause → Bytes → ℕ → Type 0
 LineRefused fold cs s k =
     Says fold s (fault k)
-    ⊎ ((c : Clause) × Says fold s (rule c) × (Repeat cs c → ⊥)
+    ⊎ ((c : Clause) × Says fold s (rule c)
     × (((k ≡ 7) × (length cs ≡ rules)) ⊎ ((k ≡ 6) × (length cs < rules) × (names < length (names_of (cs ++ (c ∷ [])))))))
 
 -- line number `line` is the first that is refused, under the number k
@@ -45,10 +42,10 @@ pub record FirstRefused (fold : ℕ → ℕ) (t : Bytes) (k line : ℕ) : Type 0
   pub here : Bytes
   pub below : List Bytes
   pub text : Text t (above ++ (here ∷ below))
-  pub said : List Clause
-  pub says : Saying fold above said
-  pub fits : Fits (kept said)
-  pub refused_for : LineRefused fold (kept said) here k
+  pub cs : List Clause
+  pub says : Saying fold above cs
+  pub fits : Fits cs
+  pub refused_for : LineRefused fold cs here k
   pub number : line ≡ length above + 2
 
 -- the same, where the cause is the line's own form: it has the fault of number k
@@ -68,23 +65,19 @@ pub data Reading : Type 0 where
   read : List Clause → Reading
   refused : ℕ → ℕ → Reading
 
--- the cause for which a rule that repeats none is refused after the rules cs, 0 for none
-unfoldable pub new_cause : List Clause → Clause → ℕ
-new_cause cs c = pick (leb rules (length cs)) 7 (pick (ltb names (length (names_of (cs ++ (c ∷ []))))) 6 0)
-
--- the cause for which a line of that form is refused after the rules cs, 0 for none: a repeat has none
+-- the cause for which a line of that form is refused after the clauses cs, 0 for none
 unfoldable pub line_cause : List Clause → Form → ℕ
 line_cause cs silent = 0
 line_cause cs (fault k) = k
-line_cause cs (rule c) = pick (repeats cs c) 0 (new_cause cs c)
+line_cause cs (rule c) = pick (leb rules (length cs)) 7 (pick (ltb names (length (names_of (cs ++ (c ∷ []))))) 6 0)
 
--- the rules after a line of that form
+-- the clauses after a line of that form
 unfoldable pub taken : List Clause → Form → List Clause
 taken cs silent = cs
 taken cs (fault k) = cs
-taken cs (rule c) = keep cs c
+taken cs (rule c) = cs ++ (c ∷ [])
 
--- the lines from number `line` on, after the rules cs
+-- the lines from number `line` on, after the clauses cs
 unfoldable pub read_lines : (ℕ → ℕ) → List Bytes → List Clause → ℕ → Reading
 read_lines fold [] cs line = read cs
 read_lines fold (s ∷ ls) cs line =

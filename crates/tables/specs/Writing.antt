@@ -10,7 +10,7 @@ use Rattle.grammar.specs.Letters.{letters_cause}
 use Rattle.grammar.specs.Grammar.{Clause, mark, joined}
 use Rattle.tables.specs.Numbering.{same_bytes, names_of}
 use Rattle.tables.specs.Reading.{Book}
-use Rattle.tables.specs.Areas.{Areas, RuleTables, rules_of, body_at, among_rules, short, tables_of, nonzero, name_at, names_in, rules_in}
+use Rattle.tables.specs.Areas.{Areas, rules_of, short, tables_of, nonzero, name_at, names_in, rules_in}
 
 -- the names, each after a space
 unfoldable pub spaced_on : List Bytes → Bytes
@@ -66,17 +66,13 @@ unfoldable pub met_in : ℕ → List ℕ → ℕ
 met_in met [] = met
 met_in met (a ∷ rest) = met_in (max met (suc a)) rest
 
--- none of the first m rules has the head and the body of one before it
-unfoldable pub unrepeated : RuleTables → ℕ → Bool
-unrepeated tables m = every m (λ j. not (among_rules tables j (get_or tables.heads j 0) (body_at tables j)))
-
--- the tables are in order: names, unused rows, numbering by first appearance, so that heads and body bits are below n, and no repeat
+-- the tables are in order: names, unused rows, and numbering by first appearance; so heads and body bits are below n
 unfoldable pub well_formed : (ℕ → ℕ) → Areas → ℕ → ℕ → Bool
 well_formed fold o n m =
     (leb n names && leb m rules)
     && ((every n (good_name fold o.spellings) && (different o.spellings n && zero_from (n * name_bytes) name_area o.spellings))
     && ((zero_from m rules o.heads && zero_from (m * body_words) body_area o.bodies)
-    && ((orderly 0 (numbers_in (rules_in (rules_of o) m)) && eqb (met_in 0 (numbers_in (rules_in (rules_of o) m))) n) && unrepeated (rules_of o) m)))
+    && (orderly 0 (numbers_in (rules_in (rules_of o) m)) && eqb (met_in 0 (numbers_in (rules_in (rules_of o) m))) n)))
 
 -- some book, of any length, reads to these tables
 pub record Readable (fold : ℕ → ℕ) (o : Areas) (n m : ℕ) : Type 0 where

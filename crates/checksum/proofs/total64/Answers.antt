@@ -1,0 +1,12 @@
+use mathlib.Core.Path.{refl, sym, ◌∙◌}
+use Rattle.checksum.proofs.Laws.{onward_more, onward_end}
+use Rattle.checksum.proofs.total64.Goals as goal
+
+pub loop-i-init : goal.loop-i-init
+loop-i-init c = refl
+
+pub loop-i-preserved : goal.loop-i-preserved
+loop-i-preserved c =         onward_more c.args.area.now _ _ _ _ c.loop-i-test.true c.join-s.ensures c.loop-i.invariant
+
+pub returns : goal.returns
+returns c = sym (onward_end _ _ _ c.loop-i-test.false) ∙ c.loop-i.invariant

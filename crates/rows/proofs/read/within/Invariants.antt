@@ -1,0 +1,16 @@
+-- `rows::read::within` meets its contract. The loop's invariant: `past` is 0 exactly where the words passed are within the other row.
+-- Assumes nothing.
+use Prim.Native.Nat.{◌*◌, ◌-◌, ◌≤◌}
+use mathlib.Core.Path.{◌≡◌}
+use lib.Dec.{eqb}
+use Rattle.limits.specs.Book.{word_bits}
+use Rattle.sets.specs.Set as Set
+use Rattle.areas.specs.Area.{part}
+use Rattle.words.specs.Row.{row}
+use Rattle.rows.proofs.read.within.Given as goal
+
+abbrev pub invariant-loop-j : goal.invariant-loop-j
+invariant-loop-j l = (l.j ≤ l.width) × (eqb l.past 0 ≡ Set.within (l.j * word_bits) (row (part l.at l.width l.a)) (row (part l.start l.width l.b)))
+
+abbrev pub decreases-loop-j : goal.decreases-loop-j
+decreases-loop-j l = l.width - l.j
