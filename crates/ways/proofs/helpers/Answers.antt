@@ -1,0 +1,24 @@
+use native.Mathlib.Omega.{arith}
+use mathlib.Core.Logic.{⊎_elim}
+use mathlib.Core.Path.{sym, ◌∙◌}
+use Rattle.ways.proofs.Names.{counted_none, counted_in, counted_out, counted_end}
+use borrow.Author.Rules.{rules}
+use Rattle.ways.proofs.helpers.Goals as goal
+
+pub loop-k-init : goal.loop-k-init
+loop-k-init c = (search rules, search rules, counted_none _)
+
+pub overflow_cast-heads : goal.overflow_cast-heads
+overflow_cast-heads c = omega (arith, c.type_inv.heads c.loop-k.k)
+
+pub member-requires : goal.member-requires
+member-requires c =         (search rules, c.requires.3 _ c.loop-k-test.true)
+
+pub loop-k-preserved : goal.loop-k-preserved
+loop-k-preserved c =     let l = c.loop-k in
+        let met = c.member.ensures in
+        ⊎_elim (λ w. (search rules, search rules, w.1 ∙ counted_in _ _ _ l.invariant.2 (sym met ∙ w.0.taken)))
+    (λ w. (search rules, search rules, w.1 ∙ counted_out _ _ _ l.invariant.2 (sym met ∙ w.0.left))) c.if-member.branch
+
+pub returns : goal.returns
+returns c = counted_end _ _ _ _ c.loop-k.invariant.0 c.loop-k-test.false c.loop-k.invariant.2
