@@ -12,13 +12,13 @@ pub overflow_cast-heads : goal.overflow_cast-heads
 overflow_cast-heads c = omega (arith, c.type_inv.heads c.loop-k.k)
 
 pub member-requires : goal.member-requires
-member-requires c =         (search rules, c.requires.3 _ c.loop-k-test.true)
+member-requires c =  (search rules, c.requires.3 _ c.loop-k-test.true)
 
 pub loop-k-preserved : goal.loop-k-preserved
-loop-k-preserved c =     let l = c.loop-k in
-        let met = c.member.ensures in
-        ⊎_elim (λ w. (search rules, search rules, w.1 ∙ counted_in _ _ _ l.invariant.2 (sym met ∙ w.0.taken)))
-    (λ w. (search rules, search rules, w.1 ∙ counted_out _ _ _ l.invariant.2 (sym met ∙ w.0.left))) c.if-member.branch
+loop-k-preserved c =
+    let met = c.member.ensures in
+        ⊎_elim (λ w. (search rules, search rules, w.found-is ∙ counted_in _ _ _ c.loop-k.invariant.2 (sym met ∙ w.if-member.true)))
+    (λ w. (search rules, search rules, w.found-is ∙ counted_out _ _ _ c.loop-k.invariant.2 (sym met ∙ w.if-member.false))) c.if-member.branch-raw
 
 pub returns : goal.returns
 returns c = counted_end _ _ _ _ c.loop-k.invariant.0 c.loop-k-test.false c.loop-k.invariant.2

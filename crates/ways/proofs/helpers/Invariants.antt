@@ -9,7 +9,7 @@ use Rattle.words.specs.Row.{row}
 use Rattle.ways.proofs.helpers.Given as goal
 
 abbrev pub invariant-loop-k : goal.invariant-loop-k
-invariant-loop-k l = (l.k ≤ l.m) × (l.found ≤ l.k) × (l.found ≡ count l.k (λ l. row (part 0 body_words l.several) (get_or l.heads l 0)))
+invariant-loop-k l = (l.k ≤ l.m) × (l.found ≤ l.k) × (l.found ≡ count l.k (λ i. row (part 0 body_words l.several) (get_or l.heads i 0)))
 
 abbrev pub decreases-loop-k : goal.decreases-loop-k
 decreases-loop-k l = l.m - l.k

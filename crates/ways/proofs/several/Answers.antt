@@ -18,19 +18,20 @@ pub overflow_cast-heads : goal.overflow_cast-heads
 overflow_cast-heads c = omega (arith, c.type_inv.heads c.loop-j.j)
 
 pub note-requires : goal.note-requires
-note-requires c =     (
+note-requires c =
+    (
       omega (arith, length_names _ _ c.loop-j.invariant.1),
       omega (arith, length_names _ _ c.loop-j.invariant.2),
       c.requires.2 _ c.loop-j-test.true,
     )
 
 pub loop-j-preserved : goal.loop-j-preserved
-loop-j-preserved c =         let head = c.requires.2 _ c.loop-j-test.true in
-    let e = c.note.ensures in
+loop-j-preserved c =
+    let head = c.requires.2 _ c.loop-j-test.true in
     (
       search rules,
-      e.0 ∙ once_more _ _ body_words _ _ c.loop-j.invariant.1 c.loop-j.invariant.2 head,
-      e.1 ∙ twice_more _ _ body_words _ _ c.loop-j.invariant.1 c.loop-j.invariant.2 head,
+      c.note.ensures.once ∙ once_more _ _ body_words _ _ c.loop-j.invariant.1 c.loop-j.invariant.2 head,
+      c.note.ensures.twice ∙ twice_more _ _ body_words _ _ c.loop-j.invariant.1 c.loop-j.invariant.2 head,
     )
 
 pub returns : goal.returns

@@ -1,0 +1,15 @@
+-- `placing::alone` meets its contract. The loop's invariant: the rows passed are each their atom alone. Assumes nothing.
+use mathlib.Core.Path.{◌≡◌}
+use Prim.Native.Nat.{◌-◌, ◌≤◌}
+use lib.ListN.{length}
+use Rattle.limits.specs.Book.{row_words}
+use Rattle.sets.specs.Set.{only}
+use Rattle.areas.specs.Area.{begun}
+use Rattle.systems.specs.Rows.{packed}
+use Rattle.placing.proofs.alone.Given as goal
+
+abbrev pub invariant-loop-i : goal.invariant-loop-i
+invariant-loop-i l = (l.i ≤ l.count) × (length l.all ≡ length l.initial.all) × (l.all ≡ begun (packed row_words l.i only) l.initial.all)
+
+abbrev pub decreases-loop-i : goal.decreases-loop-i
+decreases-loop-i l = l.count - l.i
