@@ -100,7 +100,8 @@ fn meet(
             names: count,
         };
     }
-    if count == Book::NAMES {
+    let full = count == Book::NAMES;
+    if full {
         return Met {
             room: false,
             number,

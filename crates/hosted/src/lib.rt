@@ -63,7 +63,8 @@ pub fn print(text: &[u8], out: &mut [u8; Book::LISTING_BYTES]) -> usize
     ensures { record { count = result; area = out.new } ≡ print_call our_letters text.now }
 {
     let r = list(text, Book::FOLDS, out);
-    if r.number == 0 {
+    let listed = r.number == 0;
+    if listed {
         return r.end;
     }
     let end = parts::put_refusal(r.number, r.line, out);

@@ -27,6 +27,51 @@ ours_between lo n value e b l m =
     sym (ap value q) ∙ eqb-true (value (lo + (b - lo))) (our_letters (lo + (b - lo))) (every_at n same e (b - lo) (omega arith))
     ∙ ap our_letters q
 
+-- document 01's entry of each byte, range by range
+pub capital : (b : ℕ) → 65 ≤ b → b ≤ 90 → b + 32 ≡ our_letters b
+unfolding every our_letters small pick
+capital b l m = ours_between 65 26 (λ i. i + 32) refl b l (omega arith)
+
+pub own_small : (b : ℕ) → 97 ≤ b → b ≤ 122 → b ≡ our_letters b
+unfolding every our_letters small pick
+own_small b l m = ours_between 97 26 (λ i. i) refl b l (omega arith)
+
+pub own_digit : (b : ℕ) → 48 ≤ b → b ≤ 57 → b ≡ our_letters b
+unfolding every our_letters small pick
+own_digit b l m = ours_between 48 10 (λ i. i) refl b l (omega arith)
+
+pub own_mark : (b : ℕ) → 45 ≤ b → b ≤ 46 → b ≡ our_letters b
+unfolding every our_letters small pick
+own_mark b l m = ours_between 45 2 (λ i. i) refl b l (omega arith)
+
+pub own_line : (b : ℕ) → b ≡ 95 → b ≡ our_letters b
+unfolding every our_letters small pick
+own_line b e = ours_between 95 1 (λ i. i) refl b (omega arith) (omega arith)
+
+pub none_low : (b : ℕ) → b ≤ 44 → 0 ≡ our_letters b
+unfolding every our_letters small pick
+none_low b m = ours_between 0 45 (λ i. 0) refl b (omega arith) (omega arith)
+
+pub none_slash : (b : ℕ) → b ≡ 47 → 0 ≡ our_letters b
+unfolding every our_letters small pick
+none_slash b e = ours_between 47 1 (λ i. 0) refl b (omega arith) (omega arith)
+
+pub none_colon : (b : ℕ) → 58 ≤ b → b ≤ 64 → 0 ≡ our_letters b
+unfolding every our_letters small pick
+none_colon b l m = ours_between 58 7 (λ i. 0) refl b l (omega arith)
+
+pub none_bracket : (b : ℕ) → 91 ≤ b → b ≤ 94 → 0 ≡ our_letters b
+unfolding every our_letters small pick
+none_bracket b l m = ours_between 91 4 (λ i. 0) refl b l (omega arith)
+
+pub none_quote : (b : ℕ) → b ≡ 96 → 0 ≡ our_letters b
+unfolding every our_letters small pick
+none_quote b e = ours_between 96 1 (λ i. 0) refl b (omega arith) (omega arith)
+
+pub none_high : (b : ℕ) → 123 ≤ b → b ≤ 255 → 0 ≡ our_letters b
+unfolding every our_letters small pick
+none_high b l m = ours_between 123 133 (λ i. 0) refl b l (omega arith)
+
 -- the bytes from b to last with themselves and `more` as entries
 abbrev pub ranged : ℕ → ℕ → ℕ → List ℕ → List ℕ
 ranged b last more table = put b (entries_from (λ a. a + more) (suc last - b) b) table

@@ -17,6 +17,7 @@ const RESERVED: [u8; 9] = [0, b'\t', b'\n', b'\r', b' ', b'!', b'#', b':', b'@']
 const TO_SMALL: u8 = b'a' - b'A';
 
 // Document 01's entry for byte b: the small letter, 0 for a byte that no name has.
+#[tactic(auto, using(crate::proofs::Ours::capital, crate::proofs::Ours::own_small, crate::proofs::Ours::own_digit, crate::proofs::Ours::own_mark, crate::proofs::Ours::own_line, crate::proofs::Ours::none_low, crate::proofs::Ours::none_slash, crate::proofs::Ours::none_colon, crate::proofs::Ours::none_bracket, crate::proofs::Ours::none_quote, crate::proofs::Ours::none_high))]
 pub fn letter(b: u8) -> u8
     ensures { result ≡ our_letters b }
 {
@@ -45,7 +46,8 @@ fn fill_range(area: &mut [u8], first: u8, last: u8, more: u8)
 pub fn fill(area: &mut [u8]) -> usize
     ensures { record { number = result; area = area.new } ≡ fill_call area.old }
 {
-    if area.len() < Book::LETTER_BYTES {
+    let short = area.len() < Book::LETTER_BYTES;
+    if short {
         return Refusal::SHORT_AREA;
     }
     clear_tail8(area, 0, Book::LETTER_BYTES);
@@ -107,6 +109,7 @@ fn any_unsettled(table: &[u8]) -> bool
 }
 
 // What a call that is lent a table judges first, 0 for none. `short` is whether another area that it is lent is too short.
+#[tactic(auto, using(crate::proofs::Tables::cause_short, crate::proofs::Tables::cause_reserved, crate::proofs::Tables::cause_unsettled, crate::proofs::Tables::cause_none))]
 pub fn cause(short: bool, table: &[u8]) -> usize
     ensures { result ≡ letters_cause short table.now }
 {

@@ -67,7 +67,8 @@ pub fn standardise_formed(
 {
     let several = ways::several(heads, m);
     let atoms = n + ways::helpers(heads, m, &several);
-    if Book::ATOMS < atoms {
+    let over = Book::ATOMS < atoms;
+    if over {
         return Answer {
             number: Refusal::ATOMS,
             atoms: 0,

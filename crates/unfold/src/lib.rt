@@ -81,7 +81,8 @@ pub fn fold_formed(all: &mut [u64], spare: &mut [u64], count: usize, k: usize, f
 pub fn fold(all: &mut [u64], spare: &mut [u64], count: usize, k: usize) -> usize
     ensures { record { number = result; all = all.new; spare = spare.new } ≡ fold_call all.old spare.old count k }
 {
-    if all.len() < Book::ROW_AREA || spare.len() < Book::ROW_AREA {
+    let short = spare.len() < Book::ROW_AREA;
+    if all.len() < Book::ROW_AREA || short {
         return Refusal::SHORT_AREA;
     }
     if Book::FOLDS < k {

@@ -9,22 +9,22 @@ use Rattle.hosted.proofs.Ends.{print_end}
 use borrow.Author.Rules.{rules}
 use Rattle.hosted.proofs.print.Goals as goal
 
-pub returns-then-r-eq0 : goal.returns-then-r-eq0
-returns-then-r-eq0 c =
+pub returns-then-listed : goal.returns-then-listed
+returns-then-listed c =
     let exact : length c.args.out.now ≡ listing_bytes = search rules in
-    print_ours _ (print_end our_table our_table_lem _ _ exact c.list-r.ensures.listed c.if-r-eq0.true c.list-r.ensures.end)
+    print_ours _ (print_end our_table our_table_lem _ _ exact c.list-r.ensures.listed c.if-listed.true c.list-r.ensures.end)
 
 pub put_refusal-end-requires : goal.put_refusal-end-requires
 put_refusal-end-requires c =
     let exact : length c.args.out.now ≡ listing_bytes = search rules in
-    refusal_room our_table our_table_lem _ _ exact _ c.list-r.ensures.listed c.if-r-eq0.false
+    refusal_room our_table our_table_lem _ _ exact _ c.list-r.ensures.listed c.if-listed.false
 
 pub clear_tail8-requires : goal.clear_tail8-requires
 clear_tail8-requires c =
     let exact : length c.args.out.now ≡ listing_bytes = search rules in (
-      refusal_fits our_table our_table_lem _ _ exact _ c.list-r.ensures.listed c.if-r-eq0.false
+      refusal_fits our_table our_table_lem _ _ exact _ c.list-r.ensures.listed c.if-listed.false
           _ _ c.put_refusal-end.ensures.text c.put_refusal-end.ensures.next,
-      refusal_area our_table our_table_lem _ _ exact _ c.list-r.ensures.listed c.if-r-eq0.false
+      refusal_area our_table our_table_lem _ _ exact _ c.list-r.ensures.listed c.if-listed.false
           _ _ c.put_refusal-end.ensures.text c.put_refusal-end.ensures.next,
     )
 
@@ -32,5 +32,5 @@ pub returns : goal.returns
 returns c =
     let exact : length c.args.out.now ≡ listing_bytes = search rules in
     print_ours _
-    (print_refused our_table our_table_lem _ _ exact _ c.list-r.ensures.listed c.if-r-eq0.false _ _ c.put_refusal-end.ensures.text c.put_refusal-end.ensures.next
+    (print_refused our_table our_table_lem _ _ exact _ c.list-r.ensures.listed c.if-listed.false _ _ c.put_refusal-end.ensures.text c.put_refusal-end.ensures.next
     _ c.clear_tail8.ensures)

@@ -13,21 +13,21 @@ helpers-requires c = ((in_limits _ _ c.requires.standard_long.1).1, c.requires.s
 pub overflow_add-atoms : goal.overflow_add-atoms
 overflow_add-atoms c = omega (arith, helpers_few _ _ c.requires.standard_long.1 _ c.several-several.ensures _ c.helpers.ensures)
 
-pub returns-then-atoms-gt-ATOMS : goal.returns-then-atoms-gt-ATOMS
-returns-then-atoms-gt-ATOMS c = call_over _ _ _ c.requires.standard_long.0 c.requires.standard_long.1 _ c.several-several.ensures _ c.helpers.ensures c.if-atoms-gt-ATOMS.true
+pub returns-then-over : goal.returns-then-over
+returns-then-over c = call_over _ _ _ c.requires.standard_long.0 c.requires.standard_long.1 _ c.several-several.ensures _ c.helpers.ensures c.if-over.true
 
 pub begin-requires : goal.begin-requires
 begin-requires c = record {
-  count_le_atoms = (c.if-atoms-gt-ATOMS.false, c.requires.standard_long.0.1.0, c.requires.standard_long.0.1.1, c.requires.standard_long.0.1.2);
+  count_le_atoms = (c.if-over.false, c.requires.standard_long.0.1.0, c.requires.standard_long.0.1.1, c.requires.standard_long.0.1.2);
   clear = c.requires.clear;
 }
 
 pub fill-c-requires : goal.fill-c-requires
 fill-c-requires c =
-    rows_ready _ _ c.requires.standard_long.1 _ c.several-several.ensures _ c.helpers.ensures c.if-atoms-gt-ATOMS.false _ _
+    rows_ready _ _ c.requires.standard_long.1 _ c.several-several.ensures _ c.helpers.ensures c.if-over.false _ _
     c.begin.ensures.all c.begin.ensures.any c.begin.ensures.model c.requires.standard_long.0
 
 pub returns : goal.returns
 returns c =
-    call_done _ _ _ c.requires.standard_long.0 c.requires.standard_long.1 _ c.several-several.ensures _ c.helpers.ensures c.if-atoms-gt-ATOMS.false
+    call_done _ _ _ c.requires.standard_long.0 c.requires.standard_long.1 _ c.several-several.ensures _ c.helpers.ensures c.if-over.false
     _ c.begin.ensures.all c.begin.ensures.any c.begin.ensures.model _ _ _ c.fill-c.ensures c.count-h.ensures

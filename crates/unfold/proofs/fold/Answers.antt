@@ -1,7 +1,6 @@
 -- `unfold::fold` meets its contract. One law for each outcome. Assumes nothing.
 use mathlib.Core.Path.{refl}
 use mathlib.Core.Logic.{inl, inr, ⊎_elim}
-use borrow.Author.Tests.{ltb-true, ltb-false}
 use Rattle.sets.proofs.Logic.{clash}
 use Rattle.rowcheck.proofs.Counted.{passed}
 use Rattle.unfold.proofs.Outcomes.{call_short, call_over, call_ill, call_done}
@@ -9,14 +8,14 @@ use borrow.Author.Rules.{rules}
 use Rattle.unfold.proofs.fold.Goals as goal
 
 pub returns-then-all-lt-ROW_AREA : goal.returns-then-all-lt-ROW_AREA
-returns-then-all-lt-ROW_AREA c = call_short c.args.all.now c.args.spare.now _ _ (⊎_elim (λ w. inl w.if-all-lt-ROW_AREA.true) (λ w. inr (ltb-true _ _ w.if-spare-lt-ROW_AREA.true-raw)) c.then-all-lt-ROW_AREA.branch-raw)
+returns-then-all-lt-ROW_AREA c = call_short c.args.all.now c.args.spare.now _ _ (⊎_elim (λ w. inl w.if-all-lt-ROW_AREA.true) (λ w. inr w.if-short.true) c.then-all-lt-ROW_AREA.branch-raw)
 
 pub returns-then-k-gt-FOLDS : goal.returns-then-k-gt-FOLDS
-returns-then-k-gt-FOLDS c = call_over c.args.all.now c.args.spare.now _ _ c.if-all-lt-ROW_AREA.false (ltb-false _ _ c.if-spare-lt-ROW_AREA.false-raw) c.if-k-gt-FOLDS.true
+returns-then-k-gt-FOLDS c = call_over c.args.all.now c.args.spare.now _ _ c.if-all-lt-ROW_AREA.false c.if-short.false c.if-k-gt-FOLDS.true
 
 pub returns-then-not-formed : goal.returns-then-not-formed
 returns-then-not-formed c =
-    call_ill c.args.all.now c.args.spare.now _ _ c.if-all-lt-ROW_AREA.false (ltb-false _ _ c.if-spare-lt-ROW_AREA.false-raw) c.if-k-gt-FOLDS.false _
+    call_ill c.args.all.now c.args.spare.now _ _ c.if-all-lt-ROW_AREA.false c.if-short.false c.if-k-gt-FOLDS.false _
     c.formed.ensures c.if-not-formed.true-raw
 
 pub fold_formed-requires : goal.fold_formed-requires
@@ -26,5 +25,5 @@ fold_formed-requires c =
 
 pub returns : goal.returns
 returns c =
-    call_done c.args.all.now c.args.spare.now _ _ c.if-all-lt-ROW_AREA.false (ltb-false _ _ c.if-spare-lt-ROW_AREA.false-raw) c.if-k-gt-FOLDS.false _
+    call_done c.args.all.now c.args.spare.now _ _ c.if-all-lt-ROW_AREA.false c.if-short.false c.if-k-gt-FOLDS.false _
     c.formed.ensures _ _ c.if-not-formed.false-raw c.fold_formed.ensures.all c.fold_formed.ensures.spare
