@@ -5,25 +5,27 @@
 mod spoilt;
 mod whole;
 
+use std::fs::Files;
+use std::io::{BufWriter, Write};
+use std::{env, io};
 use trial::files;
 
 // In a file to be swept, a book, each `?` takes every byte value.
-fn argument(i: usize) {
+fn argument<R: Files + Eprint, W: Write>(rt: &R, out: &mut W, path: &str) -> io::Result<()> {
     let mut text = [0u8; files::INPUT];
-    let got = files::take(i, &mut text);
-    if files::swept(i) {
-        whole::sweep(&text[..got]);
+    let got = files::take(rt, out, path, &mut text)?;
+    if files::swept(path) {
+        whole::sweep(out, &text[..got])
     } else {
-        whole::show(&text[..got]);
+        whole::show(out, &text[..got])
     }
 }
 
-fn main() {
-    let count = os::arg_count();
-    let mut i = 1;
-    while i < count {
-        argument(i);
-        i += 1;
+fn main(rt: HostRuntime) -> io::Result<()> {
+    let mut out = BufWriter::new(rt.alloc(), io::writer(&rt))?;
+    for path in env::args(&rt)?.skip(1) {
+        argument(&rt, &mut out, path.as_str())?;
     }
-    spoilt::all();
+    spoilt::all(&mut out)?;
+    out.flush()
 }

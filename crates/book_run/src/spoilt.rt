@@ -3,11 +3,14 @@
 use crate::whole;
 use limits::Book;
 use scan::table::folding;
+use std::io;
+use std::io::Write;
 use trial::areas::Area;
 use trial::print;
 
 // Writes into the first bytes of an area, and prints number, length and a checksum of the area.
-fn written_to(
+fn written_to<W: Write>(
+    out: &mut W,
     spellings: &[u8],
     heads: &[u16],
     bodies: &[u64],
@@ -15,54 +18,90 @@ fn written_to(
     m: usize,
     text: &mut [u8],
     room: usize,
-) {
+) -> io::Result<()> {
     let table = folding();
     if room <= text.len() {
         let w = writer::write(spellings, heads, bodies, &table, n, m, &mut text[0..room]);
-        print::first(w.number as u64);
-        print::number(w.size as u64);
-        print::total8(text);
-        print::end();
+        print::first(out, w.number as u64)?;
+        print::number(out, w.size as u64)?;
+        print::total8(out, text)?;
+        print::end(out)?;
     }
+    Ok(())
 }
 
 // Writes into the first bytes of an area of its own.
-fn written_in(spellings: &[u8], heads: &[u16], bodies: &[u64], n: usize, m: usize, room: usize) {
+fn written_in<W: Write>(
+    out: &mut W,
+    spellings: &[u8],
+    heads: &[u16],
+    bodies: &[u64],
+    n: usize,
+    m: usize,
+    room: usize,
+) -> io::Result<()> {
     let mut text = [Area::MARK8; Area::TEXT];
-    written_to(spellings, heads, bodies, n, m, &mut text, room);
+    written_to(out, spellings, heads, bodies, n, m, &mut text, room)
 }
 
-fn written(spellings: &[u8], heads: &[u16], bodies: &[u64], n: usize, m: usize) {
-    written_in(spellings, heads, bodies, n, m, Area::TEXT);
+fn written<W: Write>(
+    out: &mut W,
+    spellings: &[u8],
+    heads: &[u16],
+    bodies: &[u64],
+    n: usize,
+    m: usize,
+) -> io::Result<()> {
+    written_in(out, spellings, heads, bodies, n, m, Area::TEXT)
 }
 
 // The writer on the tables, and the reader of another book into their areas.
-fn both(spellings: &mut [u8], heads: &mut [u16], bodies: &mut [u64]) {
-    written(spellings, heads, bodies, 4, 4);
-    whole::judge(b"DPB 0001\na:\n", spellings, heads, bodies);
+fn both<W: Write>(
+    out: &mut W,
+    spellings: &mut [u8],
+    heads: &mut [u16],
+    bodies: &mut [u64],
+) -> io::Result<()> {
+    written(out, spellings, heads, bodies, 4, 4)?;
+    whole::judge(out, b"DPB 0001\na:\n", spellings, heads, bodies)?;
+    Ok(())
 }
 
 // Both on the first entries of each area.
-fn both_in(
+fn both_in<W: Write>(
+    out: &mut W,
     spellings: &mut [u8],
     heads: &mut [u16],
     bodies: &mut [u64],
     a: usize,
     b: usize,
     c: usize,
-) {
+) -> io::Result<()> {
     if a <= spellings.len() && b <= heads.len() && c <= bodies.len() {
-        both(&mut spellings[0..a], &mut heads[0..b], &mut bodies[0..c]);
+        both(
+            out,
+            &mut spellings[0..a],
+            &mut heads[0..b],
+            &mut bodies[0..c],
+        )?;
     }
+    Ok(())
 }
 
 // A name by number from the first bytes of the name area, in brackets.
-fn look_up_in(spellings: &[u8], size: usize, n: usize, a: usize) {
+fn look_up_in<W: Write>(
+    out: &mut W,
+    spellings: &[u8],
+    size: usize,
+    n: usize,
+    a: usize,
+) -> io::Result<()> {
     if size <= spellings.len() {
-        print::text(b"[");
-        print::text(lexicon::look_up::look_up(&spellings[0..size], n, a));
-        print::line(b"]");
+        print::text(out, b"[")?;
+        print::text(out, lexicon::look_up::look_up(&spellings[0..size], n, a))?;
+        print::line(out, b"]")?;
     }
+    Ok(())
 }
 
 fn set8(area: &mut [u8], at: usize, value: u8) {
@@ -96,105 +135,108 @@ fn small(spellings: &mut [u8], heads: &mut [u16], bodies: &mut [u64]) {
 }
 
 // With other counts.
-fn counts(n: usize, m: usize) {
+fn counts<W: Write>(out: &mut W, n: usize, m: usize) -> io::Result<()> {
     let mut spellings = [Area::MARK8; Area::SPELLINGS];
     let mut heads = [Area::MARK16; Area::HEADS];
     let mut bodies = [Area::MARK64; Area::BODIES];
     small(&mut spellings, &mut heads, &mut bodies);
-    written(&spellings, &heads, &bodies, n, m);
+    written(out, &spellings, &heads, &bodies, n, m)
 }
 
 // With another byte in the name area.
-fn spelling(at: usize, value: u8) {
+fn spelling<W: Write>(out: &mut W, at: usize, value: u8) -> io::Result<()> {
     let mut spellings = [Area::MARK8; Area::SPELLINGS];
     let mut heads = [Area::MARK16; Area::HEADS];
     let mut bodies = [Area::MARK64; Area::BODIES];
     small(&mut spellings, &mut heads, &mut bodies);
     set8(&mut spellings, at, value);
-    written(&spellings, &heads, &bodies, 4, 4);
+    written(out, &spellings, &heads, &bodies, 4, 4)
 }
 
 // With another head.
-fn head(at: usize, value: u16) {
+fn head<W: Write>(out: &mut W, at: usize, value: u16) -> io::Result<()> {
     let mut spellings = [Area::MARK8; Area::SPELLINGS];
     let mut heads = [Area::MARK16; Area::HEADS];
     let mut bodies = [Area::MARK64; Area::BODIES];
     small(&mut spellings, &mut heads, &mut bodies);
     set16(&mut heads, at, value);
-    written(&spellings, &heads, &bodies, 4, 4);
+    written(out, &spellings, &heads, &bodies, 4, 4)
 }
 
 // With another body word.
-fn body(at: usize, value: u64) {
+fn body<W: Write>(out: &mut W, at: usize, value: u64) -> io::Result<()> {
     let mut spellings = [Area::MARK8; Area::SPELLINGS];
     let mut heads = [Area::MARK16; Area::HEADS];
     let mut bodies = [Area::MARK64; Area::BODIES];
     small(&mut spellings, &mut heads, &mut bodies);
     set64(&mut bodies, at, value);
-    written(&spellings, &heads, &bodies, 4, 4);
+    written(out, &spellings, &heads, &bodies, 4, 4)
 }
 
 // With areas of these lengths, for the writer and for the reader.
-fn lengths(a: usize, b: usize, c: usize) {
+fn lengths<W: Write>(out: &mut W, a: usize, b: usize, c: usize) -> io::Result<()> {
     let mut spellings = [Area::MARK8; Area::SPELLINGS];
     let mut heads = [Area::MARK16; Area::HEADS];
     let mut bodies = [Area::MARK64; Area::BODIES];
     small(&mut spellings, &mut heads, &mut bodies);
-    both_in(&mut spellings, &mut heads, &mut bodies, a, b, c);
+    both_in(out, &mut spellings, &mut heads, &mut bodies, a, b, c)
 }
 
 // With a text area of this length.
-fn room(d: usize) {
+fn room<W: Write>(out: &mut W, d: usize) -> io::Result<()> {
     let mut spellings = [Area::MARK8; Area::SPELLINGS];
     let mut heads = [Area::MARK16; Area::HEADS];
     let mut bodies = [Area::MARK64; Area::BODIES];
     small(&mut spellings, &mut heads, &mut bodies);
-    written_in(&spellings, &heads, &bodies, 4, 4, d);
+    written_in(out, &spellings, &heads, &bodies, 4, 4, d)
 }
 
 // A name by number, from a name area of this length.
-fn look_up(size: usize, n: usize, a: usize) {
+fn look_up<W: Write>(out: &mut W, size: usize, n: usize, a: usize) -> io::Result<()> {
     let mut spellings = [Area::MARK8; Area::SPELLINGS];
     let mut heads = [Area::MARK16; Area::HEADS];
     let mut bodies = [Area::MARK64; Area::BODIES];
     small(&mut spellings, &mut heads, &mut bodies);
-    look_up_in(&spellings, size, n, a);
+    look_up_in(out, &spellings, size, n, a)
 }
 
 // As many names as there is room for, each of the full length, all different in their first two bytes.
 fn long_names(spellings: &mut [u8]) {
-    let mut a = 0;
-    while a < Book::NAMES {
+    for a in 0..Book::NAMES {
         let at = Book::name_at(a);
         set8(spellings, at, b'a' + (a % 16) as u8);
         set8(spellings, at + 1, b'a' + (a / 16) as u8);
-        a += 1;
     }
 }
 
 // The bodies of the first m rules become all names.
 fn full_bodies(bodies: &mut [u64], m: usize) {
-    let mut j = 0;
-    while j < bodies.len() && j / Book::BODY_WORDS < m {
-        bodies[j] = u64::MAX;
-        j += 1;
+    for (j, word) in bodies.iter_mut().enumerate() {
+        if j / Book::BODY_WORDS < m {
+            *word = u64::MAX;
+        }
     }
 }
 
 // The writer on the long names and m rules, all with name 0 as head.
-fn long_written(spellings: &[u8], bodies: &[u64], m: usize) {
+fn long_written<W: Write>(
+    out: &mut W,
+    spellings: &[u8],
+    bodies: &[u64],
+    m: usize,
+) -> io::Result<()> {
     let heads = [0u16; Area::HEADS];
-    written(spellings, &heads, bodies, Book::NAMES, m);
+    written(out, spellings, &heads, bodies, Book::NAMES, m)
 }
 
 // m rules with all names as body; `last` in the last byte of name 0.
-fn long(m: usize, last: u8) {
+fn long<W: Write>(out: &mut W, m: usize, last: u8) -> io::Result<()> {
     let mut spellings = [b'a'; Area::SPELLINGS];
     let mut bodies = [0u64; Area::BODIES];
     long_names(&mut spellings);
     set8(&mut spellings, Book::NAME_BYTES - 1, last);
     full_bodies(&mut bodies, m);
-    long_written(&spellings, &bodies, m);
+    long_written(out, &spellings, &bodies, m)
 }
 
 // The last bytes of the name that ends there become padding.
@@ -205,7 +247,7 @@ fn shorten(spellings: &mut [u8], end: usize, less: usize) {
 }
 
 // Three such rules and one of the names 1 to 109, with the last bytes of names 1 and 127 cut off.
-fn cut(one: usize, other: usize) {
+fn cut<W: Write>(out: &mut W, one: usize, other: usize) -> io::Result<()> {
     let mut spellings = [b'a'; Area::SPELLINGS];
     let mut bodies = [0u64; Area::BODIES];
     long_names(&mut spellings);
@@ -214,93 +256,94 @@ fn cut(one: usize, other: usize) {
     full_bodies(&mut bodies, 3);
     set64(&mut bodies, 3 * Book::BODY_WORDS, u64::MAX - 1);
     set64(&mut bodies, 3 * Book::BODY_WORDS + 1, (1 << 46) - 1);
-    long_written(&spellings, &bodies, 4);
+    long_written(out, &spellings, &bodies, 4)
 }
 
 // A short name area and a text that would be refused for itself.
-fn first_cause(text: &[u8]) {
+fn first_cause<W: Write>(out: &mut W, text: &[u8]) -> io::Result<()> {
     let mut spellings = [Area::MARK8; Book::NAME_AREA - 1];
     let mut heads = [Area::MARK16; Book::RULES];
     let mut bodies = [Area::MARK64; Book::BODY_AREA];
-    whole::judge(text, &mut spellings, &mut heads, &mut bodies);
+    whole::judge(out, text, &mut spellings, &mut heads, &mut bodies)?;
+    Ok(())
 }
 
-fn writer_counts() {
-    counts(4, 4);
-    counts(4, 5);
-    counts(5, 4);
-    counts(3, 4);
-    counts(4, 3);
-    counts(Book::NAMES + 1, 4);
-    counts(4, Book::RULES + 1);
+fn writer_counts<W: Write>(out: &mut W) -> io::Result<()> {
+    counts(out, 4, 4)?;
+    counts(out, 4, 5)?;
+    counts(out, 5, 4)?;
+    counts(out, 3, 4)?;
+    counts(out, 4, 3)?;
+    counts(out, Book::NAMES + 1, 4)?;
+    counts(out, 4, Book::RULES + 1)
 }
 
-fn writer_names() {
-    spelling(0, b'P');
-    spelling(0, 0);
-    spelling(0, b':');
-    spelling(1, b'p');
-    spelling(2, b'p');
-    spelling(Book::NAME_BYTES, b'p');
-    spelling(Book::NAME_AREA - 1, b'a');
-    spelling(Book::NAME_AREA, b'a');
+fn writer_names<W: Write>(out: &mut W) -> io::Result<()> {
+    spelling(out, 0, b'P')?;
+    spelling(out, 0, 0)?;
+    spelling(out, 0, b':')?;
+    spelling(out, 1, b'p')?;
+    spelling(out, 2, b'p')?;
+    spelling(out, Book::NAME_BYTES, b'p')?;
+    spelling(out, Book::NAME_AREA - 1, b'a')?;
+    spelling(out, Book::NAME_AREA, b'a')
 }
 
-fn writer_rules() {
-    head(0, 1);
-    head(1, 2);
-    head(2, 4);
-    head(3, 0);
-    head(4, 1);
-    head(Book::RULES - 1, 1);
-    head(Book::RULES, 1);
-    body(0, 4);
-    body(0, 18);
-    body(1, 1);
-    body(Book::BODY_WORDS, 1);
-    body(4 * Book::BODY_WORDS, 1);
-    body(Book::BODY_AREA - 1, 1);
-    body(Book::BODY_AREA, 1);
+fn writer_rules<W: Write>(out: &mut W) -> io::Result<()> {
+    head(out, 0, 1)?;
+    head(out, 1, 2)?;
+    head(out, 2, 4)?;
+    head(out, 3, 0)?;
+    head(out, 4, 1)?;
+    head(out, Book::RULES - 1, 1)?;
+    head(out, Book::RULES, 1)?;
+    body(out, 0, 4)?;
+    body(out, 0, 18)?;
+    body(out, 1, 1)?;
+    body(out, Book::BODY_WORDS, 1)?;
+    body(out, 4 * Book::BODY_WORDS, 1)?;
+    body(out, Book::BODY_AREA - 1, 1)?;
+    body(out, Book::BODY_AREA, 1)
 }
 
-fn short_areas() {
-    lengths(Book::NAME_AREA, Book::RULES, Book::BODY_AREA);
-    lengths(Book::NAME_AREA - 1, Book::RULES, Book::BODY_AREA);
-    lengths(Book::NAME_AREA, Book::RULES - 1, Book::BODY_AREA);
-    lengths(Book::NAME_AREA, Book::RULES, Book::BODY_AREA - 1);
-    room(Book::TEXT_BYTES);
-    room(Book::TEXT_BYTES - 1);
+fn short_areas<W: Write>(out: &mut W) -> io::Result<()> {
+    lengths(out, Book::NAME_AREA, Book::RULES, Book::BODY_AREA)?;
+    lengths(out, Book::NAME_AREA - 1, Book::RULES, Book::BODY_AREA)?;
+    lengths(out, Book::NAME_AREA, Book::RULES - 1, Book::BODY_AREA)?;
+    lengths(out, Book::NAME_AREA, Book::RULES, Book::BODY_AREA - 1)?;
+    room(out, Book::TEXT_BYTES)?;
+    room(out, Book::TEXT_BYTES - 1)
 }
 
-fn long_texts() {
-    long(3, b'a');
-    long(4, b'a');
-    long(4, b'A');
-    cut(2, 6);
-    cut(4, 3);
+fn long_texts<W: Write>(out: &mut W) -> io::Result<()> {
+    long(out, 3, b'a')?;
+    long(out, 4, b'a')?;
+    long(out, 4, b'A')?;
+    cut(out, 2, 6)?;
+    cut(out, 4, 3)
 }
 
-fn first_causes() {
+fn first_causes<W: Write>(out: &mut W) -> io::Result<()> {
     let long = [0u8; Book::TEXT_BYTES + 1];
-    first_cause(&long);
-    first_cause(b"DPB 0002\n");
+    first_cause(out, &long)?;
+    first_cause(out, b"DPB 0002\n")
 }
 
-fn look_ups() {
-    look_up(Book::NAME_AREA, 4, 0);
-    look_up(Book::NAME_AREA, 4, 3);
-    look_up(Book::NAME_AREA, 4, 4);
-    look_up(Book::NAME_AREA, Book::NAMES, 4);
-    look_up(Book::NAME_AREA, Book::NAMES + 1, 0);
-    look_up(Book::NAME_AREA - 1, 4, 0);
+fn look_ups<W: Write>(out: &mut W) -> io::Result<()> {
+    look_up(out, Book::NAME_AREA, 4, 0)?;
+    look_up(out, Book::NAME_AREA, 4, 3)?;
+    look_up(out, Book::NAME_AREA, 4, 4)?;
+    look_up(out, Book::NAME_AREA, Book::NAMES, 4)?;
+    look_up(out, Book::NAME_AREA, Book::NAMES + 1, 0)?;
+    look_up(out, Book::NAME_AREA - 1, 4, 0)
 }
 
-pub fn all() {
-    writer_counts();
-    writer_names();
-    writer_rules();
-    short_areas();
-    long_texts();
-    first_causes();
-    look_ups();
+pub fn all<W: Write>(out: &mut W) -> io::Result<()> {
+    writer_counts(out)?;
+    writer_names(out)?;
+    writer_rules(out)?;
+    short_areas(out)?;
+    long_texts(out)?;
+    first_causes(out)?;
+    look_ups(out)
 }

@@ -2,7 +2,6 @@
 // hosted; here is only reading and writing.
 #![tactic(auto)]
 
-use libc::{STDERR_FILENO, STDIN_FILENO, STDOUT_FILENO};
 use limits::Book;
 
 mod input;
@@ -10,21 +9,22 @@ mod input;
 // One byte more than a book may have: where that is read too, the text is too long.
 const ROOM: usize = Book::TEXT_BYTES + 1;
 
-fn print(text: &[u8]) {
+// Output that is lost is told on standard error; what standard error loses is told nowhere.
+fn print<R: Print + Eprint>(rt: &R, text: &[u8]) {
     let mut out = [0u8; Book::LISTING_BYTES];
     let n = hosted::print(text, &mut out);
-    if !io::write_all(STDOUT_FILENO, &out[..n]) {
-        io::write_all(STDERR_FILENO, b"dpl: standard output cannot be written\n");
+    if rt.write_all(&out[..n]).is_err() {
+        let _ = eprintln!(rt; "dpl: standard output cannot be written");
     }
 }
 
-fn main() {
+fn main(rt: HostRuntime) {
     let mut text = [0u8; ROOM];
-    let input = input::read(STDIN_FILENO, &mut text);
+    let input = input::read(&mut rt.stdin(), &mut text);
     if !input.whole {
-        io::write_all(STDERR_FILENO, b"dpl: standard input cannot be read\n");
+        let _ = eprintln!(rt; "dpl: standard input cannot be read");
         return;
     }
     let n = input.bytes;
-    print(&text[..n]);
+    print(&rt, &text[..n]);
 }

@@ -5,6 +5,8 @@
 ghost use Rattle.std.specs.Prelude.{◌≤◌};
 
 use limits::Book;
+use std::io;
+use std::io::Write;
 use trial::areas::Area;
 use trial::print;
 
@@ -32,78 +34,98 @@ fn lent(area: usize, number: usize, change: usize) -> usize
     area - Area::GUARD - 1
 }
 
-fn print_read(r: reader::Answer) {
-    print::number(r.number as u64);
-    print::number(r.line as u64);
-    print::number(r.names as u64);
-    print::number(r.rules as u64);
+fn print_read<W: Write>(out: &mut W, r: reader::Answer) -> io::Result<()> {
+    print::number(out, r.number as u64)?;
+    print::number(out, r.line as u64)?;
+    print::number(out, r.names as u64)?;
+    print::number(out, r.rules as u64)
 }
 
-fn print_solved(r: solver::Answer) {
-    print::number(r.number as u64);
-    print::number(r.line as u64);
-    print::number(r.names as u64);
-    print::number(r.atoms as u64);
-    print::number(r.held as u64);
-    print::number(r.rounds as u64);
-    print::number(r.c as u64);
-    print::number(r.h as u64);
+fn print_solved<W: Write>(out: &mut W, r: solver::Answer) -> io::Result<()> {
+    print::number(out, r.number as u64)?;
+    print::number(out, r.line as u64)?;
+    print::number(out, r.names as u64)?;
+    print::number(out, r.atoms as u64)?;
+    print::number(out, r.held as u64)?;
+    print::number(out, r.rounds as u64)?;
+    print::number(out, r.c as u64)?;
+    print::number(out, r.h as u64)
 }
 
-fn print_written(w: writer::Written) {
-    print::number(w.number as u64);
-    print::number(w.size as u64);
+fn print_written<W: Write>(out: &mut W, w: writer::Written) -> io::Result<()> {
+    print::number(out, w.number as u64)?;
+    print::number(out, w.size as u64)
 }
 
-fn totals(spellings: &[u8], heads: &[u16], bodies: &[u64]) {
-    print::total8(spellings);
-    print::total16(heads);
-    print::total64(bodies);
+fn totals<W: Write>(
+    out: &mut W,
+    spellings: &[u8],
+    heads: &[u16],
+    bodies: &[u64],
+) -> io::Result<()> {
+    print::total8(out, spellings)?;
+    print::total16(out, heads)?;
+    print::total64(out, bodies)
 }
 
-fn read_into(
+fn read_into<W: Write>(
+    out: &mut W,
     text: &[u8],
     table: &[u8],
     spellings: &mut [u8],
     heads: &mut [u16],
     bodies: &mut [u64],
-) {
+) -> io::Result<()> {
     let r = reader::read(text, table, spellings, heads, bodies);
-    print::text(b"read");
-    print_read(r);
-    totals(spellings, heads, bodies);
-    print::end();
+    print::text(out, b"read")?;
+    print_read(out, r)?;
+    totals(out, spellings, heads, bodies)?;
+    print::end(out)
 }
 
-pub fn read(text: &[u8], table: &[u8], change: usize) {
+pub fn read<W: Write>(out: &mut W, text: &[u8], table: &[u8], change: usize) -> io::Result<()> {
     let mut spellings = [Area::MARK8; Area::SPELLINGS];
     let mut heads = [Area::MARK16; Area::HEADS];
     let mut bodies = [Area::MARK64; Area::BODIES];
     read_into(
+        out,
         text,
         table,
         &mut spellings[0..lent(Area::SPELLINGS, 1, change)],
         &mut heads[0..lent(Area::HEADS, 2, change)],
         &mut bodies[0..lent(Area::BODIES, 3, change)],
-    );
+    )
 }
 
-fn print_rows(all: &[u64], any: &[u64], spare: &[u64], model: &[u64]) {
-    print::total64(all);
-    print::total64(any);
-    print::total64(spare);
-    print::total64(model);
+fn print_rows<W: Write>(
+    out: &mut W,
+    all: &[u64],
+    any: &[u64],
+    spare: &[u64],
+    model: &[u64],
+) -> io::Result<()> {
+    print::total64(out, all)?;
+    print::total64(out, any)?;
+    print::total64(out, spare)?;
+    print::total64(out, model)
 }
 
-fn print_listing(r: solver::Answer, listing: &[u8], brief: bool) {
-    print::total8(listing);
-    print::end();
+fn print_listing<W: Write>(
+    out: &mut W,
+    r: solver::Answer,
+    listing: &[u8],
+    brief: bool,
+) -> io::Result<()> {
+    print::total8(out, listing)?;
+    print::end(out)?;
     if r.number == 0 && r.atoms <= print::FEW && !brief {
-        print::up_to_zero(listing);
+        print::up_to_zero(out, listing)?;
     }
+    Ok(())
 }
 
-fn solve_into(
+fn solve_into<W: Write>(
+    out: &mut W,
     text: &[u8],
     table: &[u8],
     folds: usize,
@@ -116,18 +138,24 @@ fn solve_into(
     model: &mut [u64],
     listing: &mut [u8],
     brief: bool,
-) {
+) -> io::Result<()> {
     let r = solver::solve(
         text, table, folds, spellings, heads, bodies, all, any, spare, model, listing,
     );
-    print::text(b"solve");
-    print_solved(r);
-    totals(spellings, heads, bodies);
-    print_rows(all, any, spare, model);
-    print_listing(r, listing, brief);
+    print::text(out, b"solve")?;
+    print_solved(out, r)?;
+    totals(out, spellings, heads, bodies)?;
+    print_rows(out, all, any, spare, model)?;
+    print_listing(out, r, listing, brief)
 }
 
-pub fn solve(text: &[u8], table: &[u8], folds: usize, change: usize) {
+pub fn solve<W: Write>(
+    out: &mut W,
+    text: &[u8],
+    table: &[u8],
+    folds: usize,
+    change: usize,
+) -> io::Result<()> {
     let mut spellings = [Area::MARK8; Area::SPELLINGS];
     let mut heads = [Area::MARK16; Area::HEADS];
     let mut bodies = [Area::MARK64; Area::BODIES];
@@ -137,6 +165,7 @@ pub fn solve(text: &[u8], table: &[u8], folds: usize, change: usize) {
     let mut model = [Area::MARK64; Area::MODEL];
     let mut listing = [Area::MARK8; Area::LISTING];
     solve_into(
+        out,
         text,
         table,
         folds,
@@ -149,20 +178,28 @@ pub fn solve(text: &[u8], table: &[u8], folds: usize, change: usize) {
         &mut model[0..lent(Area::MODEL, 7, change)],
         &mut listing[0..lent(Area::LISTING, 8, change)],
         change == BRIEF,
-    );
+    )
 }
 
 // A text just written under the table, where it is: read again.
-fn reread(text: &[u8], size: usize, table: &[u8], brief: bool) {
+fn reread<W: Write>(
+    out: &mut W,
+    text: &[u8],
+    size: usize,
+    table: &[u8],
+    brief: bool,
+) -> io::Result<()> {
     if 0 < size && size <= text.len() && !brief {
         if size <= SHORT {
-            print::text(&text[0..size]);
+            print::text(out, &text[0..size])?;
         }
-        read(&text[0..size], table, 0);
+        read(out, &text[0..size], table, 0)?;
     }
+    Ok(())
 }
 
-fn write_into(
+fn write_into<W: Write>(
+    out: &mut W,
     spellings: &[u8],
     heads: &[u16],
     bodies: &[u64],
@@ -171,16 +208,17 @@ fn write_into(
     m: usize,
     text: &mut [u8],
     brief: bool,
-) {
+) -> io::Result<()> {
     let w = writer::write(spellings, heads, bodies, table, n, m, text);
-    print::text(b"write");
-    print_written(w);
-    print::total8(text);
-    print::end();
-    reread(text, w.size, table, brief);
+    print::text(out, b"write")?;
+    print_written(out, w)?;
+    print::total8(out, text)?;
+    print::end(out)?;
+    reread(out, text, w.size, table, brief)
 }
 
-fn write(
+fn write<W: Write>(
+    out: &mut W,
     spellings: &[u8],
     heads: &[u16],
     bodies: &[u64],
@@ -188,9 +226,10 @@ fn write(
     n: usize,
     m: usize,
     change: usize,
-) {
+) -> io::Result<()> {
     let mut text = [Area::MARK8; Area::TEXT];
     write_into(
+        out,
         &spellings[0..lent(spellings.len(), 1, change)],
         &heads[0..lent(heads.len(), 2, change)],
         &bodies[0..lent(bodies.len(), 3, change)],
@@ -199,7 +238,7 @@ fn write(
         m,
         &mut text[0..lent(Area::TEXT, TEXT, change)],
         change == BRIEF,
-    );
+    )
 }
 
 // How many bodies are changed.
@@ -209,21 +248,30 @@ fn filled(m: usize, change: usize) -> usize {
 
 // The bodies of the first m rules become all names.
 fn fill(bodies: &mut [u64], m: usize) {
-    let mut j = 0;
-    while j < bodies.len() && j / Book::BODY_WORDS < m {
-        bodies[j] = u64::MAX;
-        j += 1;
+    for (j, word) in bodies.iter_mut().enumerate() {
+        if j / Book::BODY_WORDS < m {
+            *word = u64::MAX;
+        }
     }
 }
 
 // Tables read under one table, where they are, and written under the other.
-pub fn rewrite(text: &[u8], table: &[u8], other: &[u8], change: usize) {
+pub fn rewrite<W: Write>(
+    out: &mut W,
+    text: &[u8],
+    table: &[u8],
+    other: &[u8],
+    change: usize,
+) -> io::Result<()> {
     let mut spellings = [Area::MARK8; Area::SPELLINGS];
     let mut heads = [Area::MARK16; Area::HEADS];
     let mut bodies = [Area::MARK64; Area::BODIES];
     let r = reader::read(text, table, &mut spellings, &mut heads, &mut bodies);
     fill(&mut bodies, filled(r.rules, change));
     if r.number == 0 {
-        write(&spellings, &heads, &bodies, other, r.names, r.rules, change);
+        write(
+            out, &spellings, &heads, &bodies, other, r.names, r.rules, change,
+        )?;
     }
+    Ok(())
 }

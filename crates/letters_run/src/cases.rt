@@ -5,23 +5,32 @@ ghost use Rattle.std.specs.Prelude.{◌≤◌, ◌<◌, length};
 use crate::calls::FILL;
 use crate::parts::wide;
 use crate::{calls, ours, parts, sweep};
+use std::io;
+use std::io::Write;
 use trial::print;
 
 // The bytes between title and text.
 const NUMBERS: usize = 4;
 
-fn show(text: &[u8], table: &[u8], other: &[u8], folds: usize, change: usize) {
+fn show<W: Write>(
+    out: &mut W,
+    text: &[u8],
+    table: &[u8],
+    other: &[u8],
+    folds: usize,
+    change: usize,
+) -> io::Result<()> {
     if change == FILL {
-        ours::show(text);
-        return;
+        ours::show(out, text)?;
+        return Ok(());
     }
-    calls::read(text, table, change);
-    calls::solve(text, table, folds, change);
-    calls::rewrite(text, table, other, change);
+    calls::read(out, text, table, change)?;
+    calls::solve(out, text, table, folds, change)?;
+    calls::rewrite(out, text, table, other, change)
 }
 
 // The case whose title ends there.
-fn case(file: &[u8], at: usize, swept: bool)
+fn case<W: Write>(out: &mut W, file: &[u8], at: usize, swept: bool) -> io::Result<()>
     requires { at ≤ length file.now }
 {
     if file.len() - at >= NUMBERS {
@@ -30,11 +39,12 @@ fn case(file: &[u8], at: usize, swept: bool)
         let folds = wide(file[at + 2]);
         let text = parts::part(file, at + NUMBERS);
         if swept {
-            sweep::each(text, table, folds);
+            sweep::each(out, text, table, folds)?;
         } else {
-            show(text, table, other, folds, wide(file[at + 3]));
+            show(out, text, table, other, folds, wide(file[at + 3]))?;
         }
     }
+    Ok(())
 }
 
 // The place after that case.
@@ -48,12 +58,13 @@ fn next(file: &[u8], at: usize) -> usize
     parts::after(file, at + NUMBERS)
 }
 
-pub fn each(file: &[u8], swept: bool) {
+pub fn each<W: Write>(out: &mut W, file: &[u8], swept: bool) -> io::Result<()> {
     let mut at = parts::first(file);
     while at < file.len() {
-        print::line(parts::part(file, at));
+        print::line(out, parts::part(file, at))?;
         let end = parts::after(file, at);
-        case(file, end, swept);
+        case(out, file, end, swept)?;
         at = next(file, end);
     }
+    Ok(())
 }

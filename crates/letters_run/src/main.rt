@@ -8,19 +8,21 @@ mod ours;
 mod parts;
 mod sweep;
 
+use std::fs::Files;
+use std::io::{BufWriter, Write};
+use std::{env, io};
 use trial::files;
 
-fn argument(i: usize) {
+fn argument<R: Files + Eprint, W: Write>(rt: &R, out: &mut W, path: &str) -> io::Result<()> {
     let mut file = [0u8; files::INPUT];
-    let got = files::take(i, &mut file);
-    cases::each(&file[..got], files::swept(i));
+    let got = files::take(rt, out, path, &mut file)?;
+    cases::each(out, &file[..got], files::swept(path))
 }
 
-fn main() {
-    let count = os::arg_count();
-    let mut i = 1;
-    while i < count {
-        argument(i);
-        i += 1;
+fn main(rt: HostRuntime) -> io::Result<()> {
+    let mut out = BufWriter::new(rt.alloc(), io::writer(&rt))?;
+    for path in env::args(&rt)?.skip(1) {
+        argument(&rt, &mut out, path.as_str())?;
     }
+    out.flush()
 }

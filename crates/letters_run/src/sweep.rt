@@ -3,14 +3,14 @@
 use crate::calls;
 use crate::calls::BRIEF;
 use limits::Book;
+use std::io;
+use std::io::Write;
 use trial::print;
 
 // As many bytes as there are, and as there is room for.
 pub fn copy(table: &[u8], changed: &mut [u8]) {
-    let mut i = 0;
-    while i < table.len() && i < changed.len() {
-        changed[i] = table[i];
-        i += 1;
+    for (byte, from) in changed.iter_mut().zip(table) {
+        *byte = *from;
     }
 }
 
@@ -20,16 +20,23 @@ fn set(changed: &mut [u8], b: u8, value: u8) {
     }
 }
 
-fn one(text: &[u8], table: &[u8], folds: usize, b: u8, value: u8) {
+fn one<W: Write>(
+    out: &mut W,
+    text: &[u8],
+    table: &[u8],
+    folds: usize,
+    b: u8,
+    value: u8,
+) -> io::Result<()> {
     let mut changed = [0u8; Book::LETTER_BYTES];
     copy(table, &mut changed);
     set(&mut changed, b, value);
-    print::first(b as u64);
-    print::number(value as u64);
-    print::end();
-    calls::read(text, &changed, BRIEF);
-    calls::solve(text, &changed, folds, BRIEF);
-    calls::rewrite(text, table, &changed, BRIEF);
+    print::first(out, b as u64)?;
+    print::number(out, value as u64)?;
+    print::end(out)?;
+    calls::read(out, text, &changed, BRIEF)?;
+    calls::solve(out, text, &changed, folds, BRIEF)?;
+    calls::rewrite(out, text, table, &changed, BRIEF)
 }
 
 // The entry of byte b.
@@ -42,24 +49,30 @@ fn entry(table: &[u8], b: u8) -> u8 {
 }
 
 // Another entry for byte b, where it is another.
-fn other(text: &[u8], table: &[u8], folds: usize, b: u8, value: u8) {
+fn other<W: Write>(
+    out: &mut W,
+    text: &[u8],
+    table: &[u8],
+    folds: usize,
+    b: u8,
+    value: u8,
+) -> io::Result<()> {
     if value != entry(table, b) {
-        one(text, table, folds, b, value);
+        one(out, text, table, folds, b, value)?;
     }
+    Ok(())
 }
 
-fn byte(text: &[u8], table: &[u8], folds: usize, b: u8) {
+fn byte<W: Write>(out: &mut W, text: &[u8], table: &[u8], folds: usize, b: u8) -> io::Result<()> {
     let letter = if entry(table, b) == b'q' { b'r' } else { b'q' };
-    other(text, table, folds, b, 0);
-    other(text, table, folds, b, b);
-    other(text, table, folds, b, letter);
+    other(out, text, table, folds, b, 0)?;
+    other(out, text, table, folds, b, b)?;
+    other(out, text, table, folds, b, letter)
 }
 
-pub fn each(text: &[u8], table: &[u8], folds: usize) {
-    let mut b = 0;
-    while b < 255 {
-        byte(text, table, folds, b);
-        b += 1;
+pub fn each<W: Write>(out: &mut W, text: &[u8], table: &[u8], folds: usize) -> io::Result<()> {
+    for b in 0..=u8::MAX {
+        byte(out, text, table, folds, b)?;
     }
-    byte(text, table, folds, 255);
+    Ok(())
 }

@@ -6,6 +6,8 @@
 
 use limits::Book;
 use scan::table::{fill, letter};
+use std::io::{BufWriter, Write};
+use std::{env, io};
 use trial::print;
 
 // An odd number, so that a number returned each time is what is left of them.
@@ -46,12 +48,10 @@ fn repeat(case: u8) -> u64 {
     let mut heads = [0u16; Book::RULES];
     let mut bodies = [0u64; Book::BODY_AREA];
     let mut joined = 0;
-    let mut i = 0;
-    while i < CALLS {
+    for i in 0..CALLS {
         table[255] = last_entry(case, i);
         let number = read(&table, size, &mut spellings, &mut heads, &mut bodies);
         joined ^= number as u64;
-        i += 1;
     }
     joined
 }
@@ -94,11 +94,9 @@ fn taken(table: &mut [u8], i: usize) -> u8 {
 fn refill(case: u8) -> u64 {
     let mut table = [0u8; Book::LETTER_BYTES];
     let mut joined = 0;
-    let mut i = 0;
-    while i < CALLS {
+    for i in 0..CALLS {
         fill_by(case, &mut table);
         joined ^= taken(&mut table, i) as u64;
-        i += 1;
     }
     joined
 }
@@ -110,20 +108,18 @@ fn result(case: u8) -> u64 {
     repeat(case)
 }
 
-fn argument(i: usize) {
-    let mut name = io::buffer();
-    let n = os::arg(i, &mut name);
-    if n != 0 {
-        print::first(result(name[0]));
-        print::end();
+fn argument<W: Write>(out: &mut W, name: &str) -> io::Result<()> {
+    if let Some(case) = name.as_bytes().first() {
+        print::first(out, result(*case))?;
+        print::end(out)?;
     }
+    Ok(())
 }
 
-fn main() {
-    let count = os::arg_count();
-    let mut i = 1;
-    while i < count {
-        argument(i);
-        i += 1;
+fn main(rt: HostRuntime) -> io::Result<()> {
+    let mut out = BufWriter::new(rt.alloc(), io::writer(&rt))?;
+    for name in env::args(&rt)?.skip(1) {
+        argument(&mut out, name.as_str())?;
     }
+    out.flush()
 }

@@ -4,121 +4,124 @@
 ghost use Rattle.std.specs.Prelude.{◌+◌, ◌*◌, ◌^◌, ◌<◌, ◌≤◌, length};
 ghost use Rattle.limits.specs.Book.{word_bits};
 
-use libc::STDOUT_FILENO;
 use limits::Book;
+use std::io;
+use std::io::{BufWriter, Write};
 
-fn number(n: u64) {
-    io::print_decimal(STDOUT_FILENO, n);
-    io::write_all(STDOUT_FILENO, b"\n");
+fn number<W: Write>(out: &mut W, n: u64) -> io::Result<()> {
+    writeln!(out, "{n}")
 }
 
-fn byte(n: u8) {
-    number(n as u64);
+fn byte<W: Write>(out: &mut W, n: u8) -> io::Result<()> {
+    number(out, n as u64)
 }
 
-fn head(n: u16) {
-    number(n as u64);
+fn head<W: Write>(out: &mut W, n: u16) -> io::Result<()> {
+    number(out, n as u64)
 }
 
-fn answer(yes: bool) {
+fn answer<W: Write>(out: &mut W, yes: bool) -> io::Result<()> {
     if yes {
-        io::write_all(STDOUT_FILENO, b"yes\n");
+        writeln!(out, "yes")
     } else {
-        io::write_all(STDOUT_FILENO, b"no\n");
+        writeln!(out, "no")
     }
 }
 
 // Prints the atoms of a row, rising.
-fn show(area: &[u64], at: usize, width: usize)
+fn show<W: Write>(out: &mut W, area: &[u64], at: usize, width: usize) -> io::Result<()>
     requires { (at + width ≤ length area.now) × (width * word_bits < 2 ^ 32) }
 {
     let end = width * Book::WORD_BITS;
     let mut a = rows::walk::next(area, at, width, 0);
     while a < end {
-        number(a as u64);
+        number(out, a as u64)?;
         a = rows::walk::next(area, at, width, a + 1);
     }
+    Ok(())
 }
 
 // Atoms at the ends of words join a row that stands between two marks.
-fn inserted() {
+fn inserted<W: Write>(out: &mut W) -> io::Result<()> {
     let mut area = [5u64, 0, 0, 0, 7];
     rows::write::insert(&mut area, 1, 3, 0);
     rows::write::insert(&mut area, 1, 3, 63);
     rows::write::insert(&mut area, 1, 3, 64);
     rows::write::insert(&mut area, 1, 3, 191);
-    show(&area, 1, 3);
-    number(area[0]);
-    number(area[4]);
+    show(out, &area, 1, 3)?;
+    number(out, area[0])?;
+    number(out, area[4])
 }
 
 // A row joins another, and the words around it stay.
-fn united() {
+fn united<W: Write>(out: &mut W) -> io::Result<()> {
     let mut area = [5u64, 4, 0, 7];
     let other = [1u64, 6, 8];
     rows::write::unite(&mut area, 1, &other, 1, 2);
-    show(&area, 1, 2);
-    number(area[0]);
-    number(area[3]);
+    show(out, &area, 1, 2)?;
+    number(out, area[0])?;
+    number(out, area[3])
 }
 
 // Each test where it holds and where it fails by one bit.
-fn tested() {
+fn tested<W: Write>(out: &mut W) -> io::Result<()> {
     let area = [1u64, 2, 3, 2];
-    answer(rows::read::member(&area, 2, 2, 65));
-    answer(rows::read::member(&area, 2, 2, 64));
-    answer(rows::read::within(&area, 0, &area, 2, 2));
-    answer(rows::read::within(&area, 2, &area, 0, 2));
+    answer(out, rows::read::member(&area, 2, 2, 65))?;
+    answer(out, rows::read::member(&area, 2, 2, 64))?;
+    answer(out, rows::read::within(&area, 0, &area, 2, 2))?;
+    answer(out, rows::read::within(&area, 2, &area, 0, 2))
 }
 
-fn compared() {
+fn compared<W: Write>(out: &mut W) -> io::Result<()> {
     let area = [1u64, 2, 3, 2, 4, 0];
-    answer(rows::read::meets(&area, 0, &area, 2, 2));
-    answer(rows::read::meets(&area, 0, &area, 4, 2));
-    answer(rows::read::equal(&area, 1, &area, 3, 1));
-    answer(rows::read::equal(&area, 0, &area, 2, 2));
+    answer(out, rows::read::meets(&area, 0, &area, 2, 2))?;
+    answer(out, rows::read::meets(&area, 0, &area, 4, 2))?;
+    answer(out, rows::read::equal(&area, 1, &area, 3, 1))?;
+    answer(out, rows::read::equal(&area, 0, &area, 2, 2))
 }
 
-fn counted() {
+fn counted<W: Write>(out: &mut W) -> io::Result<()> {
     let area = [1u64, 18446744073709551615, 0, 3];
-    answer(rows::read::empty(&area, 2, 1));
-    answer(rows::read::empty(&area, 1, 2));
-    number(rows::read::count(&area, 0, 3) as u64);
+    answer(out, rows::read::empty(&area, 2, 1))?;
+    answer(out, rows::read::empty(&area, 1, 2))?;
+    number(out, rows::read::count(&area, 0, 3) as u64)
 }
 
 // A tail is cleared, and what lies before and after it stays.
-fn cleared() {
+fn cleared<W: Write>(out: &mut W) -> io::Result<()> {
     let mut area = [1u64, 2, 3, 4, 5];
     rows::clear::clear_tail64(&mut area, 1, 4);
-    number(area[0]);
-    number(area[1]);
-    number(area[3]);
-    number(area[4]);
+    number(out, area[0])?;
+    number(out, area[1])?;
+    number(out, area[3])?;
+    number(out, area[4])
 }
 
-fn cleared_bytes() {
+fn cleared_bytes<W: Write>(out: &mut W) -> io::Result<()> {
     let mut area = [1u8, 2, 3, 4];
     rows::clear::clear_tail8(&mut area, 1, 3);
-    byte(area[0]);
-    byte(area[2]);
-    byte(area[3]);
+    byte(out, area[0])?;
+    byte(out, area[2])?;
+    byte(out, area[3])
 }
 
-fn cleared_heads() {
+fn cleared_heads<W: Write>(out: &mut W) -> io::Result<()> {
     let mut area = [1u16, 2, 3, 4];
     rows::clear::clear_tail16(&mut area, 2, 4);
-    head(area[1]);
-    head(area[2]);
-    head(area[3]);
+    head(out, area[1])?;
+    head(out, area[2])?;
+    head(out, area[3])
 }
 
-fn main() {
-    inserted();
-    united();
-    tested();
-    compared();
-    counted();
-    cleared();
-    cleared_bytes();
-    cleared_heads();
+fn main(rt: HostRuntime) -> io::Result<()> {
+    let mut out = BufWriter::new(rt.alloc(), io::writer(&rt))?;
+    inserted(&mut out)?;
+    united(&mut out)?;
+    tested(&mut out)?;
+    compared(&mut out)?;
+    counted(&mut out)?;
+    cleared(&mut out)?;
+    cleared_bytes(&mut out)?;
+    cleared_heads(&mut out)?;
+    out.flush()
 }

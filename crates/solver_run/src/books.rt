@@ -1,10 +1,12 @@
 // A book: solved for each number of folds and for one too many, each time in areas of its own, and taken the plain route.
 use crate::calls;
 use limits::Book;
+use std::io;
+use std::io::Write;
 use trial::areas::Area;
 
 // In areas of the stated sizes.
-fn stated(text: &[u8], folds: usize) {
+fn stated<W: Write>(out: &mut W, text: &[u8], folds: usize) -> io::Result<()> {
     let mut spellings = [Area::MARK8; Book::NAME_AREA];
     let mut heads = [Area::MARK16; Book::RULES];
     let mut bodies = [Area::MARK64; Book::BODY_AREA];
@@ -14,6 +16,7 @@ fn stated(text: &[u8], folds: usize) {
     let mut model = [Area::MARK64; Book::ROW_WORDS];
     let mut listing = [Area::MARK8; Book::LISTING_BYTES];
     calls::solve(
+        out,
         text,
         folds,
         &mut spellings,
@@ -24,11 +27,11 @@ fn stated(text: &[u8], folds: usize) {
         &mut spare,
         &mut model,
         &mut listing,
-    );
+    )
 }
 
 // In longer areas.
-fn longer(text: &[u8], folds: usize) {
+fn longer<W: Write>(out: &mut W, text: &[u8], folds: usize) -> io::Result<()> {
     let mut spellings = [Area::MARK8; Area::SPELLINGS];
     let mut heads = [Area::MARK16; Area::HEADS];
     let mut bodies = [Area::MARK64; Area::BODIES];
@@ -38,6 +41,7 @@ fn longer(text: &[u8], folds: usize) {
     let mut model = [Area::MARK64; Area::MODEL];
     let mut listing = [Area::MARK8; Area::LISTING];
     calls::solve(
+        out,
         text,
         folds,
         &mut spellings,
@@ -48,22 +52,21 @@ fn longer(text: &[u8], folds: usize) {
         &mut spare,
         &mut model,
         &mut listing,
-    );
+    )
 }
 
-fn solved(text: &[u8], folds: usize) {
+fn solved<W: Write>(out: &mut W, text: &[u8], folds: usize) -> io::Result<()> {
     if folds % 2 == 0 {
-        stated(text, folds);
+        stated(out, text, folds)?;
     } else {
-        longer(text, folds);
+        longer(out, text, folds)?;
     }
+    Ok(())
 }
 
-pub fn show(text: &[u8]) {
-    let mut folds = 0;
-    while folds <= Book::FOLDS + 1 {
-        solved(text, folds);
-        folds += 1;
+pub fn show<W: Write>(out: &mut W, text: &[u8]) -> io::Result<()> {
+    for folds in 0..=Book::FOLDS + 1 {
+        solved(out, text, folds)?;
     }
-    calls::plainly(text);
+    calls::plainly(out, text)
 }

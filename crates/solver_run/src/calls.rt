@@ -3,45 +3,65 @@
 use crate::print::words;
 use limits::Book;
 use scan::table::folding;
+use std::io;
+use std::io::Write;
 use trial::areas::Area;
 use trial::print;
 
-fn print_answer(r: solver::Answer, folds: usize) {
-    print::text(b"solve");
-    print::number(folds as u64);
-    print::number(r.number as u64);
-    print::number(r.line as u64);
-    print::number(r.names as u64);
-    print::number(r.atoms as u64);
-    print::number(r.held as u64);
-    print::number(r.rounds as u64);
-    print::number(r.c as u64);
-    print::number(r.h as u64);
+fn print_answer<W: Write>(out: &mut W, r: solver::Answer, folds: usize) -> io::Result<()> {
+    print::text(out, b"solve")?;
+    print::number(out, folds as u64)?;
+    print::number(out, r.number as u64)?;
+    print::number(out, r.line as u64)?;
+    print::number(out, r.names as u64)?;
+    print::number(out, r.atoms as u64)?;
+    print::number(out, r.held as u64)?;
+    print::number(out, r.rounds as u64)?;
+    print::number(out, r.c as u64)?;
+    print::number(out, r.h as u64)
 }
 
-fn print_tables(spellings: &[u8], heads: &[u16], bodies: &[u64]) {
-    print::total8(spellings);
-    print::total16(heads);
-    print::total64(bodies);
+fn print_tables<W: Write>(
+    out: &mut W,
+    spellings: &[u8],
+    heads: &[u16],
+    bodies: &[u64],
+) -> io::Result<()> {
+    print::total8(out, spellings)?;
+    print::total16(out, heads)?;
+    print::total64(out, bodies)
 }
 
-fn print_rows(all: &[u64], any: &[u64], spare: &[u64], model: &[u64]) {
-    print::total64(all);
-    print::total64(any);
-    print::total64(spare);
-    print::total64(model);
+fn print_rows<W: Write>(
+    out: &mut W,
+    all: &[u64],
+    any: &[u64],
+    spare: &[u64],
+    model: &[u64],
+) -> io::Result<()> {
+    print::total64(out, all)?;
+    print::total64(out, any)?;
+    print::total64(out, spare)?;
+    print::total64(out, model)
 }
 
 // The text at no fold and at eight.
-fn print_listing(r: solver::Answer, folds: usize, listing: &[u8]) {
-    print::total8(listing);
-    print::end();
+fn print_listing<W: Write>(
+    out: &mut W,
+    r: solver::Answer,
+    folds: usize,
+    listing: &[u8],
+) -> io::Result<()> {
+    print::total8(out, listing)?;
+    print::end(out)?;
     if r.number == 0 && r.atoms <= print::FEW && folds % Book::FOLDS == 0 {
-        print::up_to_zero(listing);
+        print::up_to_zero(out, listing)?;
     }
+    Ok(())
 }
 
-pub fn solve(
+pub fn solve<W: Write>(
+    out: &mut W,
     text: &[u8],
     folds: usize,
     spellings: &mut [u8],
@@ -52,43 +72,50 @@ pub fn solve(
     spare: &mut [u64],
     model: &mut [u64],
     listing: &mut [u8],
-) {
+) -> io::Result<()> {
     let table = folding();
     let r = solver::solve(
         text, &table, folds, spellings, heads, bodies, all, any, spare, model, listing,
     );
-    print_answer(r, folds);
-    print_tables(spellings, heads, bodies);
-    print_rows(all, any, spare, model);
-    print_listing(r, folds, listing);
+    print_answer(out, r, folds)?;
+    print_tables(out, spellings, heads, bodies)?;
+    print_rows(out, all, any, spare, model)?;
+    print_listing(out, r, folds, listing)
 }
 
-fn print_plain(r: plain::Answer, heads: &[u16], bodies: &[u64], model: &[u64]) {
-    print::text(b"plain");
-    print::number(r.number as u64);
-    print::number(r.held as u64);
-    print::number(r.rounds as u64);
-    words(model, Book::ROW_WORDS);
-    print::total16(heads);
-    print::total64(bodies);
-    print::total64(model);
-    print::end();
+fn print_plain<W: Write>(
+    out: &mut W,
+    r: plain::Answer,
+    heads: &[u16],
+    bodies: &[u64],
+    model: &[u64],
+) -> io::Result<()> {
+    print::text(out, b"plain")?;
+    print::number(out, r.number as u64)?;
+    print::number(out, r.held as u64)?;
+    print::number(out, r.rounds as u64)?;
+    words(out, model, Book::ROW_WORDS)?;
+    print::total16(out, heads)?;
+    print::total64(out, bodies)?;
+    print::total64(out, model)?;
+    print::end(out)
 }
 
-fn run(heads: &[u16], bodies: &[u64], n: usize, m: usize) {
+fn run<W: Write>(out: &mut W, heads: &[u16], bodies: &[u64], n: usize, m: usize) -> io::Result<()> {
     let mut model = [Area::MARK64; Area::MODEL];
     let r = plain::run(heads, bodies, n, m, &mut model);
-    print_plain(r, heads, bodies, &model);
+    print_plain(out, r, heads, bodies, &model)
 }
 
 // The plain route on the tables of a text that the reader accepts.
-pub fn plainly(text: &[u8]) {
+pub fn plainly<W: Write>(out: &mut W, text: &[u8]) -> io::Result<()> {
     let mut spellings = [Area::MARK8; Area::SPELLINGS];
     let mut heads = [Area::MARK16; Area::HEADS];
     let mut bodies = [Area::MARK64; Area::BODIES];
     let table = folding();
     let r = reader::read(text, &table, &mut spellings, &mut heads, &mut bodies);
     if r.number == 0 {
-        run(&heads, &bodies, r.names, r.rules);
+        run(out, &heads, &bodies, r.names, r.rules)?;
     }
+    Ok(())
 }

@@ -7,28 +7,31 @@ mod many;
 mod print;
 mod short;
 
+use std::fs::Files;
+use std::io::{BufWriter, Write};
+use std::{env, io};
 use trial::{files, lines};
 
-fn judge(text: &[u8]) {
+fn judge<W: Write>(out: &mut W, text: &[u8]) -> io::Result<()> {
     if lines::titled(text) {
-        many::show(text);
+        many::show(out, text)?;
     } else {
-        books::show(text);
+        books::show(out, text)?;
     }
+    Ok(())
 }
 
-fn argument(i: usize) {
+fn argument<R: Files + Eprint, W: Write>(rt: &R, out: &mut W, path: &str) -> io::Result<()> {
     let mut text = [0u8; files::INPUT];
-    let got = files::take(i, &mut text);
-    judge(&text[..got]);
+    let got = files::take(rt, out, path, &mut text)?;
+    judge(out, &text[..got])
 }
 
-fn main() {
-    let count = os::arg_count();
-    let mut i = 1;
-    while i < count {
-        argument(i);
-        i += 1;
+fn main(rt: HostRuntime) -> io::Result<()> {
+    let mut out = BufWriter::new(rt.alloc(), io::writer(&rt))?;
+    for path in env::args(&rt)?.skip(1) {
+        argument(&rt, &mut out, path.as_str())?;
     }
-    short::all();
+    short::all(&mut out)?;
+    out.flush()
 }

@@ -1,10 +1,13 @@
 // Files of many short books, each after a line that begins with `#`. All are solved in the same areas: each call finds what the one before it left.
 use crate::calls;
 use limits::Book;
+use std::io;
+use std::io::Write;
 use trial::areas::Area;
 use trial::{lines, print};
 
-fn each_fold(
+fn each_fold<W: Write>(
+    out: &mut W,
     text: &[u8],
     spellings: &mut [u8],
     heads: &mut [u16],
@@ -14,18 +17,16 @@ fn each_fold(
     spare: &mut [u64],
     model: &mut [u64],
     listing: &mut [u8],
-) {
-    let mut folds = 0;
-    while folds <= Book::FOLDS + 1 {
+) -> io::Result<()> {
+    for folds in 0..=Book::FOLDS + 1 {
         calls::solve(
-            text, folds, spellings, heads, bodies, all, any, spare, model, listing,
-        );
-        folds += 1;
+            out, text, folds, spellings, heads, bodies, all, any, spare, model, listing,
+        )?;
     }
-    calls::plainly(text);
+    calls::plainly(out, text)
 }
 
-pub fn show(text: &[u8]) {
+pub fn show<W: Write>(out: &mut W, text: &[u8]) -> io::Result<()> {
     let mut spellings = [Area::MARK8; Area::SPELLINGS];
     let mut heads = [Area::MARK16; Area::HEADS];
     let mut bodies = [Area::MARK64; Area::BODIES];
@@ -38,8 +39,9 @@ pub fn show(text: &[u8]) {
     while at < text.len() {
         let first = lines::next_line(text, at);
         let after = lines::part_end(text, first);
-        print::text(&text[at..first]);
+        print::text(out, &text[at..first])?;
         each_fold(
+            out,
             &text[first..after],
             &mut spellings,
             &mut heads,
@@ -49,7 +51,8 @@ pub fn show(text: &[u8]) {
             &mut spare,
             &mut model,
             &mut listing,
-        );
+        )?;
         at = after;
     }
+    Ok(())
 }

@@ -3,6 +3,8 @@ ghost use Rattle.std.specs.Prelude.{◌≤◌};
 
 use crate::calls;
 use limits::Book;
+use std::io;
+use std::io::Write;
 use trial::areas::Area;
 use trial::print;
 
@@ -16,7 +18,13 @@ fn lent(stated: usize, number: usize, short: usize, less: usize) -> usize
     stated
 }
 
-fn one(text: &[u8], folds: usize, short: usize, less: usize) {
+fn one<W: Write>(
+    out: &mut W,
+    text: &[u8],
+    folds: usize,
+    short: usize,
+    less: usize,
+) -> io::Result<()> {
     let mut spellings = [Area::MARK8; Area::SPELLINGS];
     let mut heads = [Area::MARK16; Area::HEADS];
     let mut bodies = [Area::MARK64; Area::BODIES];
@@ -26,6 +34,7 @@ fn one(text: &[u8], folds: usize, short: usize, less: usize) {
     let mut model = [Area::MARK64; Area::MODEL];
     let mut listing = [Area::MARK8; Area::LISTING];
     calls::solve(
+        out,
         text,
         folds,
         &mut spellings[0..lent(Book::NAME_AREA, 0, short, less)],
@@ -36,29 +45,39 @@ fn one(text: &[u8], folds: usize, short: usize, less: usize) {
         &mut spare[0..lent(Book::ROW_AREA, 5, short, less)],
         &mut model[0..lent(Book::ROW_WORDS, 6, short, less)],
         &mut listing[0..lent(Book::LISTING_BYTES, 7, short, less)],
-    );
+    )
 }
 
 // Each area in turn, and none.
-fn each(title: &[u8], text: &[u8], folds: usize) {
-    print::line(title);
-    let mut short = 0;
-    while short <= 8 {
-        one(text, folds, short, 1);
-        one(text, folds, short, 4);
-        short += 1;
+fn each<W: Write>(out: &mut W, title: &[u8], text: &[u8], folds: usize) -> io::Result<()> {
+    print::line(out, title)?;
+    for short in 0..=8 {
+        one(out, text, folds, short, 1)?;
+        one(out, text, folds, short, 4)?;
     }
+    Ok(())
 }
 
-pub fn all() {
+pub fn all<W: Write>(out: &mut W) -> io::Result<()> {
     let long = [0u8; Book::TEXT_BYTES + 1];
-    each(b"short: a book", b"DPB 0001\np:q\nq:p r\nq:s\ns:\n", 1);
-    each(b"short: folds over 8", b"DPB 0001\na:\n", Book::FOLDS + 1);
-    each(b"short: a wrong mark", b"DPB 0002\na:\n", 0);
-    each(b"short: a line at fault", b"DPB 0001\na\n", Book::FOLDS);
+    each(out, b"short: a book", b"DPB 0001\np:q\nq:p r\nq:s\ns:\n", 1)?;
     each(
+        out,
+        b"short: folds over 8",
+        b"DPB 0001\na:\n",
+        Book::FOLDS + 1,
+    )?;
+    each(out, b"short: a wrong mark", b"DPB 0002\na:\n", 0)?;
+    each(
+        out,
+        b"short: a line at fault",
+        b"DPB 0001\na\n",
+        Book::FOLDS,
+    )?;
+    each(
+        out,
         b"short: text too long, folds over 8",
         &long,
         Book::FOLDS + 1,
-    );
+    )
 }

@@ -6,6 +6,8 @@
 //   R count . . .      runs, after the fold if there is one, lending so many entries of "all", "any", model
 // In a case with S the tables begin as zeros, in one without it "all", "any" and model do; all else begins as marks.
 use crate::{areas, calls, words};
+use std::io;
+use std::io::Write;
 use trial::areas::Area;
 use trial::{lines, print};
 
@@ -46,7 +48,13 @@ fn front64(area: &[u64], count: usize) -> &[u64] {
 }
 
 // Standardises as the line at a place says.
-fn standardise(text: &[u8], at: usize, heads: &[u16], bodies: &[u64]) {
+fn standardise<W: Write>(
+    out: &mut W,
+    text: &[u8],
+    at: usize,
+    heads: &[u16],
+    bodies: &[u64],
+) -> io::Result<()> {
     let mut all = [Area::MARK64; Area::ROWS];
     let mut any = [Area::MARK64; Area::ROWS];
     let mut model = [Area::MARK64; Area::MODEL];
@@ -57,6 +65,7 @@ fn standardise(text: &[u8], at: usize, heads: &[u16], bodies: &[u64]) {
     let c = words::size(text, at, 7);
     if a <= Area::ROWS && b <= Area::ROWS && c <= Area::MODEL {
         calls::standardise(
+            out,
             heads,
             bodies,
             n,
@@ -64,22 +73,30 @@ fn standardise(text: &[u8], at: usize, heads: &[u16], bodies: &[u64]) {
             &mut all[0..a],
             &mut any[0..b],
             &mut model[0..c],
-        );
+        )?;
     }
+    Ok(())
 }
 
 // Goes the plain route as the same line says.
-fn plainly(text: &[u8], at: usize, heads: &[u16], bodies: &[u64]) {
+fn plainly<W: Write>(
+    out: &mut W,
+    text: &[u8],
+    at: usize,
+    heads: &[u16],
+    bodies: &[u64],
+) -> io::Result<()> {
     let mut model = [Area::MARK64; Area::MODEL];
     let n = words::size(text, at, 1);
     let m = words::size(text, at, 2);
     let c = words::size(text, at, 7);
     if c <= Area::MODEL {
-        calls::plainly(heads, bodies, n, m, &mut model[0..c]);
+        calls::plainly(out, heads, bodies, n, m, &mut model[0..c])?;
     }
+    Ok(())
 }
 
-fn tables(text: &[u8], at: usize) {
+fn tables<W: Write>(out: &mut W, text: &[u8], at: usize) -> io::Result<()> {
     let mut wide = [Area::MARK16 as u64; Area::HEADS];
     let mut heads = [Area::MARK16; Area::HEADS];
     let mut bodies = [Area::MARK64; Area::BODIES];
@@ -88,12 +105,12 @@ fn tables(text: &[u8], at: usize) {
     fill(text, b'b', &mut bodies);
     let a = words::size(text, at, 3);
     let b = words::size(text, at, 4);
-    standardise(text, at, front16(&heads, a), front64(&bodies, b));
-    plainly(text, at, front16(&heads, a), front64(&bodies, b));
+    standardise(out, text, at, front16(&heads, a), front64(&bodies, b))?;
+    plainly(out, text, at, front16(&heads, a), front64(&bodies, b))
 }
 
 // Folds, where there is a line for it.
-fn fold(text: &[u8], all: &mut [u64]) {
+fn fold<W: Write>(out: &mut W, text: &[u8], all: &mut [u64]) -> io::Result<()> {
     let mut spare = [Area::MARK64; Area::ROWS];
     let at = lines::find(text, 0, b'F');
     let count = words::size(text, at, 1);
@@ -101,50 +118,66 @@ fn fold(text: &[u8], all: &mut [u64]) {
     let a = words::size(text, at, 3);
     let b = words::size(text, at, 4);
     if at < text.len() && a <= all.len() && b <= Area::ROWS {
-        calls::fold(&mut all[0..a], &mut spare[0..b], count, k);
+        calls::fold(out, &mut all[0..a], &mut spare[0..b], count, k)?;
     }
+    Ok(())
 }
 
 // Runs, where there is a line for it.
-fn run(text: &[u8], all: &[u64], any: &[u64], model: &mut [u64]) {
+fn run<W: Write>(
+    out: &mut W,
+    text: &[u8],
+    all: &[u64],
+    any: &[u64],
+    model: &mut [u64],
+) -> io::Result<()> {
     let at = lines::find(text, 0, b'R');
     let count = words::size(text, at, 1);
     let a = words::size(text, at, 2);
     let b = words::size(text, at, 3);
     let c = words::size(text, at, 4);
     if at < text.len() && c <= model.len() {
-        calls::run(front64(all, a), front64(any, b), &mut model[0..c], count);
+        calls::run(
+            out,
+            front64(all, a),
+            front64(any, b),
+            &mut model[0..c],
+            count,
+        )?;
     }
+    Ok(())
 }
 
-fn rows(text: &[u8]) {
+fn rows<W: Write>(out: &mut W, text: &[u8]) -> io::Result<()> {
     let mut all = [Area::MARK64; Area::ROWS];
     let mut any = [Area::MARK64; Area::ROWS];
     let mut model = [Area::MARK64; Area::MODEL];
     fill(text, b'a', &mut all);
     fill(text, b'o', &mut any);
     fill(text, b'm', &mut model);
-    fold(text, &mut all);
-    run(text, &all, &any, &mut model);
+    fold(out, text, &mut all)?;
+    run(out, text, &all, &any, &mut model)
 }
 
 // One case, past its title.
-fn case(text: &[u8]) {
+fn case<W: Write>(out: &mut W, text: &[u8]) -> io::Result<()> {
     let at = lines::find(text, 0, b'S');
     if at < text.len() {
-        tables(text, at);
+        tables(out, text, at)?;
     } else {
-        rows(text);
+        rows(out, text)?;
     }
+    Ok(())
 }
 
-pub fn each(text: &[u8]) {
+pub fn each<W: Write>(out: &mut W, text: &[u8]) -> io::Result<()> {
     let mut at = 0;
     while at < text.len() {
         let first = lines::next_line(text, at);
         let after = lines::part_end(text, first);
-        print::text(&text[at..first]);
-        case(&text[first..after]);
+        print::text(out, &text[at..first])?;
+        case(out, &text[first..after])?;
         at = after;
     }
+    Ok(())
 }

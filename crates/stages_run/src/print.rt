@@ -1,5 +1,7 @@
 // Rows as the atoms in them.
 use limits::Book;
+use std::io;
+use std::io::Write;
 use trial::print;
 
 // Whether atom a is in the row that begins at a word.
@@ -14,33 +16,38 @@ fn has(area: &[u64], at: usize, a: usize) -> bool {
 }
 
 // The atoms of that row, those past the atom count too.
-fn row(area: &[u64], at: usize) {
-    let mut a = 0;
-    while a < Book::ATOMS {
+fn row<W: Write>(out: &mut W, area: &[u64], at: usize) -> io::Result<()> {
+    for a in 0..Book::ATOMS {
         if has(area, at, a) {
-            print::number(a as u64);
+            print::number(out, a as u64)?;
         }
-        a += 1;
     }
+    Ok(())
 }
 
 // With a stroke between two.
-fn first_rows(title: &[u8], area: &[u64], count: usize) {
-    print::text(title);
-    let mut i = 0;
-    while i < Book::ATOMS && i < count {
+fn first_rows<W: Write>(out: &mut W, title: &[u8], area: &[u64], count: usize) -> io::Result<()> {
+    print::text(out, title)?;
+    for i in 0..count.min(Book::ATOMS) {
         if i > 0 {
-            print::text(b" /");
+            print::text(out, b" /")?;
         }
-        row(area, i * Book::ROW_WORDS);
-        i += 1;
+        row(out, area, i * Book::ROW_WORDS)?;
     }
-    print::end();
+    print::end(out)
 }
 
 // The first rows of an area, where a call accepted few atoms.
-pub fn rows(number: usize, atoms: usize, title: &[u8], area: &[u64], count: usize) {
+pub fn rows<W: Write>(
+    out: &mut W,
+    number: usize,
+    atoms: usize,
+    title: &[u8],
+    area: &[u64],
+    count: usize,
+) -> io::Result<()> {
     if number == 0 && atoms <= print::FEW {
-        first_rows(title, area, count);
+        first_rows(out, title, area, count)?;
     }
+    Ok(())
 }

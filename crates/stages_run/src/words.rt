@@ -41,10 +41,8 @@ pub fn next(text: &[u8], at: usize) -> usize {
 // Number k of the line, from 1.
 pub fn size(text: &[u8], at: usize, k: usize) -> usize {
     let mut word = at;
-    let mut j = 0;
-    while j < k {
+    for _ in 0..k {
         word = next(text, word);
-        j += 1;
     }
     number(text, word) as usize
 }
