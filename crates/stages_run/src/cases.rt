@@ -24,7 +24,7 @@ fn put(text: &[u8], at: usize, area: &mut [u64]) {
 
 // Zeros over the stated size, and the entries that the lines with this letter give.
 fn fill(text: &[u8], letter: u8, area: &mut [u64]) {
-    areas::clear(area);
+    lent::clear(area);
     let mut at = lines::find(text, 0, letter);
     while at < text.len() {
         put(text, at, area);
@@ -101,7 +101,7 @@ fn tables<W: Write>(out: &mut W, text: &[u8], at: usize) -> io::Result<()> {
     let mut heads = [Area::MARK16; Area::HEADS];
     let mut bodies = [Area::MARK64; Area::BODIES];
     fill(text, b'h', &mut wide);
-    areas::narrow(&wide, &mut heads);
+    lent::narrow(&wide, &mut heads);
     fill(text, b'b', &mut bodies);
     let a = words::size(text, at, 3);
     let b = words::size(text, at, 4);

@@ -2,10 +2,10 @@
 // Then the calls on tables and rows that are spoilt, short or of no book, as files of cases give them.
 #![tactic(auto)]
 
-mod areas;
 mod books;
 mod calls;
 mod cases;
+mod lent;
 mod print;
 mod words;
 
