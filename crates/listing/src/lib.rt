@@ -2,7 +2,7 @@
 #![tactic(auto)]
 
 ghost use Rattle.std.specs.Prelude.{◌≡◌, ◌+◌, ◌≤◌, length};
-ghost use Rattle.limits.specs.Book.{names, atoms, folds as foldLimit, row_words, name_area, listing_bytes};
+ghost use Rattle.limits.specs.Book.{names, atoms, folds as fold_limit, row_words, name_area, listing_bytes};
 ghost use Rattle.tables.specs.Areas.{names_in};
 ghost use Rattle.systems.specs.Rounds.{model_in};
 ghost use Rattle.listing.specs.Write.{listing_of};
@@ -30,7 +30,7 @@ pub fn write(
     listing: &mut [u8],
 ) -> Written
     requires { (n ≤ names) × (name_area ≤ length spellings.now) × (row_words ≤ length model.now)
-        × (folds ≤ foldLimit) × (rounds ≤ atoms + 1) × (listing_bytes ≤ length listing.old) }
+        × (folds ≤ fold_limit) × (rounds ≤ atoms + 1) × (listing_bytes ≤ length listing.old) }
     ensures { record { held = result.held; end = result.end; area = listing.new }
         ≡ listing_of (names_in spellings.now n) (model_in model.now) folds rounds listing.old }
 {

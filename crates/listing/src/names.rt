@@ -26,7 +26,7 @@ pub fn count_held(model: &[u64], n: usize) -> usize
 // Puts each held name with its line end, and returns the place after them.
 pub fn put_names(spellings: &[u8], n: usize, model: &[u64], text: &mut [u8], at: usize) -> usize
     requires n_le_names { (n ≤ names) × (name_area ≤ length spellings.now) × (row_words ≤ length model.now) }
-    requires model_in_bounds { at + length (joined (held_names (names_in spellings.now n) (model_in model.now))) ≤ length text.old }
+    requires room { at + length (joined (held_names (names_in spellings.now n) (model_in model.now))) ≤ length text.old }
     ensures next { result ≡ at + length (joined (held_names (names_in spellings.now n) (model_in model.now))) }
     ensures text { text.new
         ≡ put at (joined (held_names (names_in spellings.now n) (model_in model.now))) text.old }

@@ -76,11 +76,11 @@ pub fn fill(
     model: &mut [u64],
 ) -> usize
     requires { PlacingReady (record { heads = heads.now; bodies = bodies.now }) (record { names = n; rules = m }) several.now
-        (record { all = all.now; any = any.old; model = model.old }) }
+        (record { all = all.old; any = any.old; model = model.old }) }
     ensures { Filled
-        (program_in (record { heads = heads.entry.now; bodies = bodies.now }) (record { names = n; rules = m })) result
-        (record { all = all.entry.now; any = any.old; model = model.old })
-        (record { all = all.exit.now; any = any.new; model = model.new }) }
+        (program_in (record { heads = heads.now; bodies = bodies.now }) (record { names = n; rules = m })) result
+        (record { all = all.old; any = any.old; model = model.old })
+        (record { all = all.new; any = any.new; model = model.new }) }
 {
     let mut helper = n;
     let mut c = 0;

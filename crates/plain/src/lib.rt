@@ -21,7 +21,7 @@ pub struct Answer {
 
 // Whether an area is shorter than its stated size.
 fn too_short(heads: &[u16], bodies: &[u64], model: &[u64]) -> bool
-    ensures { result ≡ short_plain (record { heads = heads.entry.now; bodies = bodies.now }) model.now }
+    ensures { result ≡ short_plain (record { heads = heads.now; bodies = bodies.now }) model.now }
 {
     if heads.len() < Book::RULES {
         return true;
@@ -37,7 +37,7 @@ fn step(heads: &[u16], bodies: &[u64], m: usize, v: &[u64], next: &mut [u64])
     requires { (m ≤ rules) × PlainLong (record { heads = heads.now; bodies = bodies.now }) v.now × (row_words ≤ length next.old)
         × ((j : ℕ) → j < m → get_or heads.now j 0 < names) }
     ensures { next.new ≡ with_model (union (model_in next.old)
-        (heads_from (record { heads = heads.entry.now; bodies = bodies.now }) m (model_in v.now)))
+        (heads_from (record { heads = heads.now; bodies = bodies.now }) m (model_in v.now)))
         next.old }
 {
     let mut j = 0;
@@ -52,7 +52,7 @@ fn step(heads: &[u16], bodies: &[u64], m: usize, v: &[u64], next: &mut [u64])
 // Makes the rounds over the first m rules of n names, from the empty set, and leaves the last set in the model area; a refusal leaves it as it was.
 pub fn run(heads: &[u16], bodies: &[u64], n: usize, m: usize, model: &mut [u64]) -> Answer
     ensures { record { number = result.number; held = result.held; rounds = result.rounds; model = model.new }
-        ≡ plain_call (record { heads = heads.entry.now; bodies = bodies.now }) (record { names = n; rules = m })
+        ≡ plain_call (record { heads = heads.now; bodies = bodies.now }) (record { names = n; rules = m })
         model.old }
 {
     if too_short(heads, bodies, model) {

@@ -299,10 +299,10 @@ pub fn read_formed(
     requires text_len_bound { (length text.now ≤ text_bytes) × FoldTable table.now }
     ensures { record {
       answer = record { number = result.number; line = result.line; names = result.names; rules = result.rules };
-      areas = record { spellings = spellings.exit.now; heads = heads.new; bodies = bodies.new };
+      areas = record { spellings = spellings.new; heads = heads.new; bodies = bodies.new };
     }
         ≡ outcome (book_of (letters table.now) text.now)
-        (record { spellings = spellings.entry.now; heads = heads.old; bodies = bodies.old }) }
+        (record { spellings = spellings.old; heads = heads.old; bodies = bodies.old }) }
 {
     if !begins(text) {
         return refused(Refusal::MARK, 0);
@@ -342,10 +342,10 @@ pub fn read(
 ) -> Answer
     ensures { record {
       answer = record { number = result.number; line = result.line; names = result.names; rules = result.rules };
-      areas = record { spellings = spellings.exit.now; heads = heads.new; bodies = bodies.new };
+      areas = record { spellings = spellings.new; heads = heads.new; bodies = bodies.new };
     }
         ≡ read_call table.now text.now
-        (record { spellings = spellings.entry.now; heads = heads.old; bodies = bodies.old }) }
+        (record { spellings = spellings.old; heads = heads.old; bodies = bodies.old }) }
 {
     let short = too_short(spellings.len(), heads.len(), bodies.len());
     let cause = scan::table::cause(short, table);

@@ -20,7 +20,7 @@ pub struct Answer {
 
 // Whether an area is shorter than its stated size.
 fn too_short(all: &[u64], any: &[u64], model: &[u64]) -> bool
-    ensures { result ≡ short_system (record { all = all.entry.now; any = any.now; model = model.now }) }
+    ensures { result ≡ short_system (record { all = all.now; any = any.now; model = model.now }) }
 {
     if all.len() < Book::ROW_AREA {
         return true;
@@ -34,7 +34,7 @@ fn too_short(all: &[u64], any: &[u64], model: &[u64]) -> bool
 // Whether the count is within its limit, and neither a bit, of the start set too, nor a row lies at or past it.
 fn well_formed(all: &[u64], any: &[u64], model: &[u64], count: usize) -> bool
     requires { RoundsLong (record { all = all.now; any = any.now; model = model.now }) }
-    ensures { result ≡ formed_system (record { all = all.entry.now; any = any.now; model = model.now }) count }
+    ensures { result ≡ formed_system (record { all = all.now; any = any.now; model = model.now }) count }
 {
     if !rowcheck::formed(all, count) {
         return false;
@@ -77,11 +77,11 @@ fn step(all: &[u64], any: &[u64], v: &[u64], next: &mut [u64], count: usize)
 fn until_still(all: &[u64], any: &[u64], model: &mut [u64], next: &mut [u64], count: usize) -> usize
     requires { RoundsReady (record { all = all.now; any = any.now; model = model.old }) next.old count }
     ensures rounds { result
-        ≡ rounds_of (system_in (record { all = all.entry.now; any = any.now; model = model.old }) count) }
+        ≡ rounds_of (system_in (record { all = all.now; any = any.now; model = model.old }) count) }
     ensures model { model.new ≡ with_model (below count (held_by
-        (system_in (record { all = all.entry.now; any = any.now; model = model.old }) count))) model.old }
+        (system_in (record { all = all.now; any = any.now; model = model.old }) count))) model.old }
     ensures next { next.new ≡ with_model (below count (held_by
-        (system_in (record { all = all.entry.now; any = any.now; model = model.old }) count))) next.old }
+        (system_in (record { all = all.now; any = any.now; model = model.old }) count))) next.old }
 {
     let mut made = 1;
     while !rows::read::equal(model, 0, next, 0, Book::ROW_WORDS) {
@@ -98,7 +98,7 @@ pub fn run_formed(all: &[u64], any: &[u64], model: &mut [u64], count: usize) -> 
     requires { RoundsLong (record { all = all.now; any = any.now; model = model.old })
         × (formed_system (record { all = all.now; any = any.now; model = model.old }) count ≡ true) }
     ensures { record { number = result.number; rounds = result.rounds; model = model.new }
-        ≡ rounds_call (record { all = all.entry.now; any = any.now; model = model.old }) count }
+        ≡ rounds_call (record { all = all.now; any = any.now; model = model.old }) count }
 {
     let mut next = [0u64; Book::ROW_WORDS];
     step(all, any, model, &mut next, count);
@@ -115,7 +115,7 @@ pub fn run_formed(all: &[u64], any: &[u64], model: &mut [u64], count: usize) -> 
 // Judges rows and start set, then makes the rounds; a refusal leaves the model area as it was.
 pub fn run(all: &[u64], any: &[u64], model: &mut [u64], count: usize) -> Answer
     ensures { record { number = result.number; rounds = result.rounds; model = model.new }
-        ≡ rounds_call (record { all = all.entry.now; any = any.now; model = model.old }) count }
+        ≡ rounds_call (record { all = all.now; any = any.now; model = model.old }) count }
 {
     if too_short(all, any, model) {
         return Answer {

@@ -138,7 +138,7 @@ pub fn solve_in(
         h = result.answer.h;
       };
       areas = record {
-        tables = record { spellings = spellings.exit.now; heads = heads.new; bodies = bodies.new };
+        tables = record { spellings = spellings.new; heads = heads.new; bodies = bodies.new };
         all = all.new;
         any = any.new;
         spare = spare.new;
@@ -146,7 +146,7 @@ pub fn solve_in(
         listing = listing.new;
       };
     } ≡ solve_call table.now text.now folds (record {
-      tables = record { spellings = spellings.entry.now; heads = heads.old; bodies = bodies.old };
+      tables = record { spellings = spellings.old; heads = heads.old; bodies = bodies.old };
       all = all.old;
       any = any.old;
       spare = spare.old;
@@ -222,7 +222,7 @@ pub fn solve(
         h = result.h;
       };
       areas = record {
-        tables = record { spellings = spellings.exit.now; heads = heads.new; bodies = bodies.new };
+        tables = record { spellings = spellings.new; heads = heads.new; bodies = bodies.new };
         all = all.new;
         any = any.new;
         spare = spare.new;
@@ -230,7 +230,7 @@ pub fn solve(
         listing = listing.new;
       };
     } ≡ solve_call table.now text.now folds (record {
-      tables = record { spellings = spellings.entry.now; heads = heads.old; bodies = bodies.old };
+      tables = record { spellings = spellings.old; heads = heads.old; bodies = bodies.old };
       all = all.old;
       any = any.old;
       spare = spare.old;

@@ -31,7 +31,7 @@ pub fn run_tables(
     fresh: bool,
 ) -> Run
     requires run_ready { RunReady (record { heads = heads.now; bodies = bodies.now }) (record { names = n; rules = m }) folds
-        (record { all = all.now; any = any.old; spare = spare.old; model = model.old }) }
+        (record { all = all.old; any = any.old; spare = spare.old; model = model.old }) }
     requires clear { fresh ≡ true → Clear row_area all.old × Clear row_area any.old × Clear row_area spare.old }
     ensures { record {
       number = result.number;
@@ -39,9 +39,9 @@ pub fn run_tables(
       rounds = result.rounds;
       c = result.c;
       h = result.h;
-      areas = record { all = all.exit.now; any = any.new; spare = spare.new; model = model.new };
-    } ≡ run_tables (program_in (record { heads = heads.entry.now; bodies = bodies.now }) (record { names = n; rules = m })) folds
-        (record { all = all.entry.now; any = any.old; spare = spare.old; model = model.old }) }
+      areas = record { all = all.new; any = any.new; spare = spare.new; model = model.new };
+    } ≡ run_tables (program_in (record { heads = heads.now; bodies = bodies.now }) (record { names = n; rules = m })) folds
+        (record { all = all.old; any = any.old; spare = spare.old; model = model.old }) }
 {
     let made = standard::standardise_formed(heads, bodies, n, m, all, any, model, fresh);
     if made.number != 0 {

@@ -5,7 +5,7 @@
 //   F count k . .      folds, lending so many entries of "all" and spare
 //   R count . . .      runs, after the fold if there is one, lending so many entries of "all", "any", model
 // In a case with S the tables begin as zeros, in one without it "all", "any" and model do; all else begins as marks.
-use crate::{areas, calls, words};
+use crate::{calls, lent, words};
 use std::io;
 use std::io::Write;
 use trial::areas::Area;

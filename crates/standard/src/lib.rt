@@ -52,7 +52,7 @@ pub fn standardise_formed(
     fresh: bool,
 ) -> Answer
     requires standard_long { StandardLong (record { heads = heads.now; bodies = bodies.now })
-        (record { all = all.now; any = any.old; model = model.old })
+        (record { all = all.old; any = any.old; model = model.old })
         × (formed_tables (record { heads = heads.now; bodies = bodies.now }) (record { names = n; rules = m }) ≡ true) }
     requires clear { fresh ≡ true → Clear row_area all.old × Clear row_area any.old }
     ensures { record {
@@ -60,10 +60,10 @@ pub fn standardise_formed(
       atoms = result.atoms;
       c = result.c;
       h = result.h;
-      areas = record { all = all.exit.now; any = any.new; model = model.new };
+      areas = record { all = all.new; any = any.new; model = model.new };
     }
-        ≡ standard_call (record { heads = heads.entry.now; bodies = bodies.now }) (record { names = n; rules = m })
-        (record { all = all.entry.now; any = any.old; model = model.old }) }
+        ≡ standard_call (record { heads = heads.now; bodies = bodies.now }) (record { names = n; rules = m })
+        (record { all = all.old; any = any.old; model = model.old }) }
 {
     let several = ways::several(heads, m);
     let atoms = n + ways::helpers(heads, m, &several);
@@ -102,10 +102,10 @@ pub fn standardise(
       atoms = result.atoms;
       c = result.c;
       h = result.h;
-      areas = record { all = all.exit.now; any = any.new; model = model.new };
+      areas = record { all = all.new; any = any.new; model = model.new };
     }
-        ≡ standard_call (record { heads = heads.entry.now; bodies = bodies.now }) (record { names = n; rules = m })
-        (record { all = all.entry.now; any = any.old; model = model.old }) }
+        ≡ standard_call (record { heads = heads.now; bodies = bodies.now }) (record { names = n; rules = m })
+        (record { all = all.old; any = any.old; model = model.old }) }
 {
     if too_short(heads.len(), bodies.len(), all.len(), any.len(), model.len()) {
         return Answer {

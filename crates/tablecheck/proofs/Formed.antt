@@ -20,7 +20,7 @@ passed {r} e f = sym e ∙ made-true r f
 pub failed : {r t : Bool} → r ≡ t → not r ≡ true → t ≡ false
 failed {r} e f = sym e ∙ made-false r f
 
--- eight tests, bracketed as in wellFormed: one that fails settles them all
+-- eight tests, bracketed as in well_formed: one that fails settles them all
 module _ (a b c d e f g h : Bool) where
   abbrev all : Bool
   all = (a && b) && ((c && (d && e)) && ((f && g) && h))

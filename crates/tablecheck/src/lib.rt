@@ -25,7 +25,7 @@ pub fn well_formed(
     requires { (name_area ≤ length spellings.now) × (rules ≤ length heads.now) × (body_area ≤ length bodies.now)
         × FoldTable table.now }
     ensures { result ≡ well_formed (letters table.now)
-        (record { spellings = spellings.entry.now; heads = heads.now; bodies = bodies.now }) n m }
+        (record { spellings = spellings.now; heads = heads.now; bodies = bodies.now }) n m }
 {
     if Book::NAMES < n {
         return false;

@@ -15,7 +15,7 @@ use limits::Book;
 fn entry(heads: &[u16], bodies: &[u64], n: usize, m: usize, j: usize) -> bool
     requires { (n ≤ names) × (j < rules) × (rules ≤ length heads.now) × (body_area ≤ length bodies.now) }
     ensures { result
-        ≡ formed_entry (record { heads = heads.entry.now; bodies = bodies.now }) (record { names = n; rules = m }) j }
+        ≡ formed_entry (record { heads = heads.now; bodies = bodies.now }) (record { names = n; rules = m }) j }
 {
     let head = heads[j] as usize;
     let at = Book::body_at(j);
@@ -29,7 +29,7 @@ fn entry(heads: &[u16], bodies: &[u64], n: usize, m: usize, j: usize) -> bool
 pub fn formed(heads: &[u16], bodies: &[u64], n: usize, m: usize) -> bool
     requires { (rules ≤ length heads.now) × (body_area ≤ length bodies.now) }
     ensures { result
-        ≡ formed_tables (record { heads = heads.entry.now; bodies = bodies.now }) (record { names = n; rules = m }) }
+        ≡ formed_tables (record { heads = heads.now; bodies = bodies.now }) (record { names = n; rules = m }) }
 {
     if Book::NAMES < n {
         return false;

@@ -45,7 +45,7 @@ pub fn write(
 ) -> Written
     ensures { record { number = result.number; size = result.size; text = text.new }
         ≡ write_call table.now
-        (record { spellings = spellings.entry.now; heads = heads.now; bodies = bodies.now })
+        (record { spellings = spellings.now; heads = heads.now; bodies = bodies.now })
         n m text.old }
 {
     let short = too_short(spellings.len(), heads.len(), bodies.len(), text.len());

@@ -33,7 +33,7 @@ pub fn put_rest(
     at: usize,
 ) -> usize
     requires n_le_names { (n ≤ names) × (name_area ≤ length spellings.now) × (row + body_words ≤ length bodies.now) × (from ≤ names) }
-    requires from_in_bounds { at + length (rest_of spellings.now n bodies.now row from) ≤ length text.old }
+    requires room { at + length (rest_of spellings.now n bodies.now row from) ≤ length text.old }
     ensures next { result ≡ at + length (rest_of spellings.now n bodies.now row from) }
     ensures text { text.new
         ≡ put at (rest_of spellings.now n bodies.now row from) text.old }
@@ -60,7 +60,7 @@ pub fn put_rule(
 ) -> usize
     requires n_le_names { (n ≤ names) × (j < rules)
         × (name_area ≤ length spellings.now) × (rules ≤ length heads.now) × (body_area ≤ length bodies.now) }
-    requires j_in_bounds { at + length (line_of spellings.now heads.now bodies.now n j) ≤ length text.old }
+    requires room { at + length (line_of spellings.now heads.now bodies.now n j) ≤ length text.old }
     ensures next { result ≡ at + length (line_of spellings.now heads.now bodies.now n j) }
     ensures text { text.new
         ≡ put at (line_of spellings.now heads.now bodies.now n j) text.old }
@@ -88,7 +88,7 @@ pub fn put_rules(
 )
     requires n_le_names { (n ≤ names) × (m ≤ rules)
         × (name_area ≤ length spellings.now) × (rules ≤ length heads.now) × (body_area ≤ length bodies.now) }
-    requires m_in_bounds { at + length (rule_lines spellings.now heads.now bodies.now n m) ≤ length text.old }
+    requires room { at + length (rule_lines spellings.now heads.now bodies.now n m) ≤ length text.old }
     ensures { text.new
         ≡ put at (rule_lines spellings.now heads.now bodies.now n m) text.old }
 {
@@ -113,7 +113,7 @@ pub fn put_text(
 )
     requires n_le_names { (n ≤ names) × (m ≤ rules)
         × (name_area ≤ length spellings.now) × (rules ≤ length heads.now) × (body_area ≤ length bodies.now) }
-    requires m_in_bounds { length (text_in spellings.now heads.now bodies.now n m) ≤ length text.old }
+    requires room { length (text_in spellings.now heads.now bodies.now n m) ≤ length text.old }
     ensures { text.new
         ≡ begun (text_in spellings.now heads.now bodies.now n m) text.old }
 {

@@ -12,7 +12,7 @@ pub put_names-end-requires : goal.put_names-end-requires
 put_names-end-requires c =
     record {
       n_le_names = (c.requires.0, c.requires.1, c.requires.2);
-      model_in_bounds = names_room c.args.spellings.now c.args.n (model_in c.args.model.now) c.args.folds c.args.rounds _ c.args.listing.now
+      room = names_room c.args.spellings.now c.args.n (model_in c.args.model.now) c.args.folds c.args.rounds _ c.args.listing.now
           c.requires.0 c.requires.3 c.requires.4 c.requires.5 c.count_held-held.ensures _ _ c.put_head-at.ensures.text c.put_head-at.ensures.next;
     }
 

@@ -34,7 +34,7 @@ put_text-requires c =
     let f = limits _ _ _ _ _ c.well_formed-2.ensures c.if-not-well_formed.false-raw in
     record {
       n_le_names = (f.0, f.1, l.0, l.1, l.2);
-      m_in_bounds = omega (arith, l.3, c.text_len-size.ensures);
+      room = omega (arith, l.3, c.text_len-size.ensures);
     }
 
 pub clear_tail8-requires : goal.clear_tail8-requires

@@ -14,27 +14,27 @@ loop-a-init c = (
   (walk_range names c.args.from c.next-a.result (Row.row (part c.args.row body_words c.args.bodies.now)) (omega arith) c.next-a.ensures).1,
   search rules,
   rest_start c.args.spellings.now c.args.n c.args.bodies.now c.args.row c.args.from c.args.text.now c.args.at
-      c.requires.from_in_bounds _ (omega arith) c.next-a.ensures,
+      c.requires.room _ (omega arith) c.next-a.ensures,
 )
 
 pub bounds-text-o : goal.bounds-text-o
 bounds-text-o c =
     rest_slot c.args.spellings.now c.args.n c.args.bodies.now c.args.row c.args.from c.args.text.now c.args.at
-    c.requires.from_in_bounds _ _ _ c.loop-a.invariant.2 c.loop-a-test.true
+    c.requires.room _ _ _ c.loop-a.invariant.2 c.loop-a-test.true
 
 pub overflow_add-o : goal.overflow_add-o
 overflow_add-o c =
     omega (
       arith,
       rest_slot c.args.spellings.now c.args.n c.args.bodies.now c.args.row c.args.from c.args.text.now c.args.at
-          c.requires.from_in_bounds _ _ _ c.loop-a.invariant.2 c.loop-a-test.true,
+          c.requires.room _ _ _ c.loop-a.invariant.2 c.loop-a-test.true,
     )
 
 pub put_name-o-requires : goal.put_name-o-requires
 put_name-o-requires c = (
   c.requires.n_le_names.0,
   c.requires.n_le_names.1,
-  rest_room c.args.spellings.now c.args.n c.args.bodies.now c.args.row c.args.from c.args.text.now c.args.at c.requires.from_in_bounds _ _ _
+  rest_room c.args.spellings.now c.args.n c.args.bodies.now c.args.row c.args.from c.args.text.now c.args.at c.requires.room _ _ _
       c.loop-a.invariant.2 c.loop-a-test.true,
 )
 
@@ -48,14 +48,14 @@ pub loop-a-preserved : goal.loop-a-preserved
 loop-a-preserved c =
     let w = walk_range names (c.loop-a.a + 1) c.next-a-in-loop-a.result (Row.row (part c.args.row body_words c.args.bodies.now)) (omega arith) c.next-a-in-loop-a.ensures
     in
-    let on = rest_on c.args.spellings.now c.args.n c.args.bodies.now c.args.row c.args.from c.args.text.now c.args.at c.requires.from_in_bounds _ _ _ c.loop-a.invariant.2
+    let on = rest_on c.args.spellings.now c.args.n c.args.bodies.now c.args.row c.args.from c.args.text.now c.args.at c.requires.room _ _ _ c.loop-a.invariant.2
     c.loop-a-test.true _ _ _ c.next-a-in-loop-a.ensures c.put_name-o.ensures.text
     c.put_name-o.ensures.next in
-    (w.1, left_length _ _ _ c.requires.from_in_bounds _ _ _ on, on)
+    (w.1, left_length _ _ _ c.requires.room _ _ _ on, on)
 
 pub returns : goal.returns
 returns c =
     record {
-      next = rest_next c.args.spellings.now c.args.n c.args.bodies.now c.args.row c.args.from c.args.text.now c.args.at c.requires.from_in_bounds _ _ _ c.loop-a.invariant.2 c.loop-a-test.false;
-      text = rest_done c.args.spellings.now c.args.n c.args.bodies.now c.args.row c.args.from c.args.text.now c.args.at c.requires.from_in_bounds _ _ _ c.loop-a.invariant.2 c.loop-a-test.false;
+      next = rest_next c.args.spellings.now c.args.n c.args.bodies.now c.args.row c.args.from c.args.text.now c.args.at c.requires.room _ _ _ c.loop-a.invariant.2 c.loop-a-test.false;
+      text = rest_done c.args.spellings.now c.args.n c.args.bodies.now c.args.row c.args.from c.args.text.now c.args.at c.requires.room _ _ _ c.loop-a.invariant.2 c.loop-a-test.false;
     }

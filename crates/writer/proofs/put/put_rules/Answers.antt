@@ -10,21 +10,21 @@ loop-j-init c = (
   search rules,
   refl,
   lines_none (names_in c.args.spellings.now c.args.n) (rule_tables c.args.heads.now c.args.bodies.now) c.args.m c.args.text.now c.args.at
-      c.requires.m_in_bounds,
+      c.requires.room,
 )
 
 pub put_rule-end-requires : goal.put_rule-end-requires
 put_rule-end-requires c =
     record {
       n_le_names = (c.requires.n_le_names.0, search rules, c.requires.n_le_names.2, c.requires.n_le_names.3, c.requires.n_le_names.4);
-      j_in_bounds = rule_room (names_in c.args.spellings.now c.args.n) (rule_tables c.args.heads.now c.args.bodies.now)
-          c.args.m c.args.text.now c.args.at c.requires.m_in_bounds _ _ _ c.loop-j.invariant.2 c.loop-j-test.true;
+      room = rule_room (names_in c.args.spellings.now c.args.n) (rule_tables c.args.heads.now c.args.bodies.now)
+          c.args.m c.args.text.now c.args.at c.requires.room _ _ _ c.loop-j.invariant.2 c.loop-j-test.true;
     }
 
 pub bounds-text-end : goal.bounds-text-end
 bounds-text-end c =
     end_slot (names_in c.args.spellings.now c.args.n) (rule_tables c.args.heads.now c.args.bodies.now) c.args.m c.args.text.now c.args.at
-    c.requires.m_in_bounds _ _ _
+    c.requires.room _ _ _
     c.loop-j.invariant.2 c.loop-j-test.true _ _
     c.put_rule-end.ensures.text c.put_rule-end.ensures.next
 
@@ -33,23 +33,23 @@ overflow_add-o c =
     omega (
       arith,
       end_slot (names_in c.args.spellings.now c.args.n) (rule_tables c.args.heads.now c.args.bodies.now) c.args.m c.args.text.now c.args.at
-          c.requires.m_in_bounds _ _ _
+          c.requires.room _ _ _
           c.loop-j.invariant.2 c.loop-j-test.true _ _
           c.put_rule-end.ensures.text c.put_rule-end.ensures.next,
     )
 
 pub loop-j-preserved : goal.loop-j-preserved
 loop-j-preserved c =
-    let t = lines_more (names_in c.args.spellings.now c.args.n) (rule_tables c.args.heads.now c.args.bodies.now) c.args.m c.args.text.now c.args.at c.requires.m_in_bounds _ _ _
+    let t = lines_more (names_in c.args.spellings.now c.args.n) (rule_tables c.args.heads.now c.args.bodies.now) c.args.m c.args.text.now c.args.at c.requires.room _ _ _
     c.loop-j.invariant.2 c.loop-j-test.true _ _
     c.put_rule-end.ensures.text c.put_rule-end.ensures.next in (
       search rules,
       lines_length (names_in c.args.spellings.now c.args.n) (rule_tables c.args.heads.now c.args.bodies.now) c.args.m c.args.text.now c.args.at
-          c.requires.m_in_bounds _ _ _ t,
+          c.requires.room _ _ _ t,
       t,
     )
 
 pub returns : goal.returns
 returns c =
     lines_done (names_in c.args.spellings.now c.args.n) (rule_tables c.args.heads.now c.args.bodies.now) c.args.m c.args.text.now c.args.at
-    c.requires.m_in_bounds _ _ _ c.loop-j.invariant.2 c.loop-j-test.false
+    c.requires.room _ _ _ c.loop-j.invariant.2 c.loop-j-test.false

@@ -6,19 +6,19 @@ use Rattle.writer.proofs.put.put_text.Goals as goal
 pub copy-at-requires : goal.copy-at-requires
 copy-at-requires c =
     mark_room (names_in c.args.spellings.now c.args.n) (rule_tables c.args.heads.now c.args.bodies.now) c.args.m c.args.text.now
-    c.requires.m_in_bounds
+    c.requires.room
 
 pub put_rules-requires : goal.put_rules-requires
 put_rules-requires c =
     record {
       n_le_names = c.requires.n_le_names;
-      m_in_bounds = lines_room (names_in c.args.spellings.now c.args.n) (rule_tables c.args.heads.now c.args.bodies.now) c.args.m c.args.text.now c.requires.m_in_bounds _ _
+      room = lines_room (names_in c.args.spellings.now c.args.n) (rule_tables c.args.heads.now c.args.bodies.now) c.args.m c.args.text.now c.requires.room _ _
           c.copy-at.ensures.area c.copy-at.ensures.next;
     }
 
 pub returns : goal.returns
 returns c =
     text_done (names_in c.args.spellings.now c.args.n) (rule_tables c.args.heads.now c.args.bodies.now) c.args.m c.args.text.now
-    c.requires.m_in_bounds _ _
+    c.requires.room _ _
     c.copy-at.ensures.area
     c.copy-at.ensures.next _ c.put_rules.ensures
