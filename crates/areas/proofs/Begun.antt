@@ -7,7 +7,7 @@ use native.Mathlib.Omega.{arith}
 use native.Mathlib.Nat.{zero-add}
 use lib.ListN.{length, take, drop, replicate, length-append, length-drop, length-replicate, drop_of_length-le}
 use lib.Seq.{take-append_seam, drop-append_seam, drop-append-add, drop-drop}
-use Rattle.areas.specs.Area.{part, put, begun}
+use Rattle.areas.specs.Area.{put, begun}
 
 -- nothing used yet
 pub begun_none : (old : List ℕ) → begun [] old ≡ old

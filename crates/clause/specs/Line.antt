@@ -1,6 +1,6 @@
 -- The line at a place of a text, and what its form is.
 -- Assumes nothing.
-use Rattle.std.specs.Prelude.{◌≡◌, Bool, true, List, ◌∷◌, ◌++◌, map, ℕ, drop}
+use Rattle.std.specs.Prelude.{◌≡◌, true, List, ◌∷◌, ◌++◌, map, ℕ, drop}
 use Rattle.grammar.specs.Bytes.{Bytes, blank, not_end, name_byte, all_of, line_end}
 use Rattle.grammar.specs.Grammar.{Form, silent, rule, fault}
 use Rattle.grammar.specs.Lines.{run, words_of, from_head}

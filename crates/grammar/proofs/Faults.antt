@@ -4,7 +4,7 @@ use mathlib.Core.Path.{◌≡◌, refl, sym, ap, ◌∙◌, subst}
 use mathlib.Core.Logic.{◌⊎◌, inl, inr}
 use mathlib.Core.Bool.{Bool, true, false, ◌||◌}
 use mathlib.Core.List.{[], ◌∷◌, ◌++◌, append_assoc, append-nil}
-use Prim.Native.Nat.{ℕ, zero, suc, ◌-◌, ◌<◌}
+use Prim.Native.Nat.{ℕ, zero, suc, ◌<◌}
 use native.Mathlib.Omega.{arith}
 use lib.Dec.{eqb}
 use lib.ListN.{length, take}
@@ -12,11 +12,11 @@ use borrow.Author.Tests.{eqb-false, ne_eqb}
 use Rattle.sets.proofs.Logic.{either, clash, or_none, of_not}
 use Rattle.grammar.specs.Bytes.{Bytes, blank, name_byte, all_of, colon}
 use Rattle.grammar.specs.Grammar.{Listed, Viable, FaultAt, BarredByte, Unnamed, LongName, FaultNumber, Fault}
-use Rattle.grammar.specs.Lines.{span, run, starts, barred, byte_fault}
+use Rattle.grammar.specs.Lines.{span, starts, barred, byte_fault}
 use Rattle.grammar.proofs.Spans.{span_nil, span_yes, span_no, all_head, all_tail, all_nil, all_cons}
 use Rattle.grammar.proofs.Spans.{head_fails, span_all}
 use Rattle.grammar.proofs.Sorts.{byte_barred, byte_free}
-use Rattle.grammar.proofs.Bodies.{split, no_name}
+use Rattle.grammar.proofs.Bodies.{split}
 
 -- Bytes.
 

@@ -13,7 +13,7 @@ use Rattle.sets.specs.Set.{pick, exists}
 use Rattle.areas.specs.Area.{begun}
 use Rattle.grammar.specs.Bytes.{bytes, blank, from_to, small, our_letters, letters, reserved, name_byte, all_of}
 use Rattle.grammar.specs.Letters.{any_reserved, any_unsettled, table_cause, entries_from, our_table}
-use Rattle.grammar.specs.Fill.{FillOutcome, fill_call}
+use Rattle.grammar.specs.Fill.{fill_call}
 use Rattle.grammar.specs.Grammar.{Form, silent, rule, fault}
 use Rattle.grammar.specs.Lines.{span, grown, goes_on, words_of, is_name, all_names, starts, barred, byte_fault, word_fault, words_fault, from_body, from_colon}
 use Rattle.grammar.specs.Lines.{from_head, form_of}

@@ -11,7 +11,7 @@ use borrow.Author.Tests.{eqb-true}
 use lib.ListN.{length}
 use Rattle.limits.specs.Book.{row_words}
 use Rattle.sets.proofs.Logic.{and_left, and_right, and_make}
-use Rattle.grammar.specs.Bytes.{Bytes, bytes, letters, our_letters}
+use Rattle.grammar.specs.Bytes.{Bytes, bytes, our_letters}
 use Rattle.grammar.specs.Grammar.{Clause}
 use Rattle.grammar.specs.Letters.{our_table}
 use Rattle.grammar.proofs.Letters.{our_letters_lem, our_table_lem}

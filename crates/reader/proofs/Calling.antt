@@ -16,7 +16,7 @@ use Rattle.grammar.specs.Grammar.{Clause}
 use Rattle.grammar.specs.Letters.{FoldTable, letters_cause}
 use Rattle.scan.specs.Hash.{buckets}
 use Rattle.tables.specs.Numbering.{names_of, numbered}
-use Rattle.tables.specs.Reading.{Reading, read, refused, marked, ended, book_of, reading}
+use Rattle.tables.specs.Reading.{Reading, refused, marked, ended, book_of, reading}
 use Rattle.tables.specs.Areas.{Areas, Outcome, name_rows, head_rows, body_rows, filled_with, tables_of, short, refusal, outcome, read_call, names_from}
 use Rattle.areas.specs.Area.{begun, filled, cleared}
 use Rattle.tables.proofs.Numbering.{names_none, heads_length, bodies_length}

@@ -3,7 +3,7 @@
 use mathlib.Core.Path.{◌≡◌, sym, ap, ◌∙◌, subst}
 use mathlib.Core.Bool.{Bool, true, false, not, ◌||◌}
 use mathlib.Core.List.{List}
-use Prim.Native.Nat.{ℕ, ◌+◌, ◌-◌, ◌*◌, ◌≤◌, ◌<◌}
+use Prim.Native.Nat.{ℕ, ◌+◌, ◌*◌, ◌≤◌, ◌<◌}
 use native.Mathlib.Omega.{arith}
 use lib.Dec.{ltb}
 use lib.ListN.{length, get_or}
@@ -12,10 +12,9 @@ use Rattle.limits.specs.Book.{names, rules, atoms, word_bits, row_words, body_wo
 use Rattle.sets.specs.Set.{Set, count, only, empty_set}
 use Rattle.sets.proofs.Logic.{or_left, or_right, or_none}
 use Rattle.sets.proofs.Counting.{count_le}
-use Rattle.areas.specs.Area.{part, begun, filled}
+use Rattle.areas.specs.Area.{part, filled}
 use Rattle.words.specs.Row.{row, pack}
 use Rattle.program.specs.Program.{Program}
-use Rattle.program.specs.System as System
 use Rattle.program.specs.Standard.{all_row, any_row, start_set, standard}
 use Rattle.program.proofs.Theorems.{kinds}
 use Rattle.tables.specs.Areas.{RuleTables, Counts, program_in}

@@ -12,11 +12,10 @@ use lib.Seq.{take_at, take-append_seam, drop-append_seam, drop-append-add, drop-
 use Rattle.limits.specs.Book.{names, name_bytes, rules, body_words, name_area, body_area}
 use Rattle.sets.specs.Set.{Set, pick}
 use Rattle.sets.proofs.Logic.{either, and_left, and_right, or_none, pick_true}
-use Rattle.areas.specs.Area.{part, begun, filled}
+use Rattle.areas.specs.Area.{part, filled}
 use Rattle.words.specs.Row.{row, Words, pack}
 use Rattle.words.proofs.Rows.{length_pack, row_pack, row_past, pack_row}
 use Rattle.areas.proofs.Parts.{length_part}
-use Rattle.areas.proofs.Begun.{used}
 use Rattle.areas.proofs.Filled.{filled_is}
 use Rattle.words.proofs.Areas.{words_part}
 use Rattle.program.specs.Program.{Rule, no_rule}

@@ -14,7 +14,7 @@ use Rattle.limits.specs.Book.{text_bytes, letter_bytes, names, name_bytes, rules
 use Rattle.sets.specs.Set.{pick, every}
 use Rattle.sets.proofs.Logic.{either, iff, and_left, and_right, pick_true, pick_false}
 use Rattle.sets.proofs.Tests.{every_same}
-use Rattle.areas.specs.Area.{part, filled}
+use Rattle.areas.specs.Area.{part}
 use Rattle.areas.proofs.First.{both_parts, part_first, filled_first}
 use Rattle.words.specs.Row.{row}
 use Rattle.program.specs.Program.{Rule}

@@ -10,7 +10,7 @@ use native.Mathlib.Omega.{arith}
 use lib.Dec.{eqb, leb}
 use lib.ListN.{length, get_or, replicate}
 use borrow.Author.Tests.{eqb-true, leb-true, leb-false, le-leb, lt-leb}
-use Rattle.limits.specs.Book.{names, word_bits, body_words}
+use Rattle.limits.specs.Book.{word_bits, body_words}
 use Rattle.sets.specs.Set.{Set, Same, pick, only, union, count}
 use Rattle.sets.proofs.Logic.{either, or_right, pick_true, pick_false}
 use Rattle.sets.proofs.Counting.{count_in, count_out}

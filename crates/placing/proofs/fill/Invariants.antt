@@ -2,7 +2,6 @@
 use Prim.Native.Nat.{◌-◌}
 use Rattle.tables.specs.Areas.{program_in}
 use Rattle.placing.proofs.Filling.{Placed}
-use borrow.Author.Rules.{rules}
 use Rattle.placing.proofs.fill.Given as goal
 
 abbrev pub invariant-loop-j : goal.invariant-loop-j

@@ -2,7 +2,6 @@
 -- The measure is what is left of the rounds' bound. One law for each outcome. Assumes nothing.
 use Prim.Native.Nat.{◌+◌, ◌-◌}
 use Rattle.plain.proofs.Turns.{Going}
-use borrow.Author.Rules.{rules}
 use Rattle.plain.proofs.run.Given as goal
 
 abbrev pub invariant-loop-next : goal.invariant-loop-next

@@ -1,5 +1,4 @@
 -- `reader::behind` meets its contract. Assumes nothing.
-use borrow.Author.Rules.{rules}
 use mathlib.Core.Path.{ap}
 use Rattle.scan.specs.declared.cursor.Cursor.{Cursor}
 use Rattle.reader.proofs.behind.Goals as goal

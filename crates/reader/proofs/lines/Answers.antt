@@ -1,5 +1,4 @@
 use mathlib.Core.Path.{refl, sym, ◌∙◌, subst}
-use borrow.Author.Rules.{rules}
 use Rattle.grammar.specs.Bytes.{letters}
 use Rattle.scan.specs.declared.cursor.Cursor.{Cursor}
 use Rattle.reader.specs.declared.Answer.{Answer}

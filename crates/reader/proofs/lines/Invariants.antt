@@ -2,7 +2,6 @@
 -- Assumes nothing.
 use Prim.Native.Nat.{◌-◌}
 use lib.ListN.{length}
-use borrow.Author.Rules.{rules}
 use Rattle.grammar.specs.Bytes.{letters}
 use Rattle.reader.specs.State.{tables_at}
 use Rattle.reader.proofs.Lining.{Going}

@@ -3,7 +3,6 @@ use mathlib.Core.Path.{sym, ◌∙◌}
 use native.Mathlib.Omega.{arith}
 use lib.ListN.{replicate}
 use borrow.Author.Tests.{not-true, not-false, eq-eqb, ne_eqb}
-use borrow.Author.Rules.{rules}
 use Rattle.limits.specs.Book.{names}
 use Rattle.grammar.specs.Bytes.{letters}
 use Rattle.scan.specs.Hash.{buckets}

@@ -1,5 +1,4 @@
 use mathlib.Core.Path.{refl, ◌∙◌}
-use mathlib.Core.Bool.{true}
 use Rattle.limits.specs.Book.{atoms, row_words}
 use Rattle.sets.proofs.Every.{every_none}
 use Rattle.rowcheck.proofs.Counted.{kept, kept_on, kept_off, kept_end, count_over, rows_decide}

@@ -1,6 +1,5 @@
 -- `solver::solve_in` meets its contract. One law for each outcome; each call keeps the length of what it is lent. Assumes nothing.
-use Rattle.solving.specs.Solve.{SolveAreas}
-use Rattle.solver.proofs.Calls.{lent, end_refused, Ranged, call_early, ranged, call_refused, tables_ready, call_over, listing_ready, call_done, end_done}
+use Rattle.solver.proofs.Calls.{lent, end_refused, call_early, ranged, call_refused, tables_ready, call_over, listing_ready, call_done, end_done}
 use Rattle.solver.proofs.solve_in.Goals as goal
 
 pub returns-then-number-ne0 : goal.returns-then-number-ne0

@@ -1,6 +1,5 @@
 use borrow.Author.Tests.{not-true, not-false}
 use mathlib.Core.Path.{sym, ◌∙◌}
-use mathlib.Core.Bool.{true}
 use Rattle.limits.specs.Book.{}
 use Rattle.sets.proofs.Every.{every_none, every_on}
 use Rattle.ways.proofs.Entries.{too_many_names, too_many_rules, entry_off, entries_end}

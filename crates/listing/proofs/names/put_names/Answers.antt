@@ -1,5 +1,4 @@
 use native.Mathlib.Omega.{arith}
-use mathlib.Core.Bool.{true}
 use Prim.Native.Nat.{◌+◌, ◌*◌}
 use Rattle.limits.specs.Book.{word_bits, row_words}
 use Rattle.sets.proofs.Walk.{walk_range}

@@ -2,7 +2,6 @@
 use mathlib.Core.Path.{sym, ap, ◌∙◌, subst}
 use Prim.Native.Nat.{ℕ, ◌+◌}
 use native.Mathlib.Omega.{arith}
-use borrow.Author.Rules.{rules}
 use Rattle.grammar.specs.Bytes.{letters, not_end}
 use Rattle.scan.specs.Places.{past_at}
 use Rattle.scan.specs.declared.cursor.Cursor.{Cursor}

@@ -1,18 +1,14 @@
 -- `reader::Reading::rule` meets its contract. Assumes nothing.
-use mathlib.Core.Path.{◌≡◌, refl, sym, ap, subst}
-use mathlib.Core.List.{List}
+use mathlib.Core.Path.{refl, sym, ap, subst}
 use Prim.Native.Nat.{ℕ, ◌+◌}
 use native.Mathlib.Omega.{arith}
 use lib.ListN.{set}
 use borrow.Author.Tests.{not-true, not-false}
-use borrow.Author.Rules.{rules}
 use Rattle.grammar.specs.Bytes.{letters, not_end}
 use Rattle.scan.specs.Places.{past_at}
 use Rattle.clause.specs.Line.{form_from}
 use Rattle.clause.specs.Found.{lexicon_of}
-use Rattle.grammar.specs.Grammar.{Clause}
-use Rattle.reader.specs.declared.Step.{Step}
-use Rattle.reader.specs.State.{Tables, tables_at, Booked, Stepped}
+use Rattle.reader.specs.State.{tables_at}
 use Rattle.reader.proofs.Stepping.{booked_ready, end_room, Answered, Behind, stayed_refused, stepped_fault, rule_end, stepped_full, stepped_over, entering, stayed_rule, stepped_rule}
 use Rattle.reader.proofs.Reading.rule.Goals as goal
 

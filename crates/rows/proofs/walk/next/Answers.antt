@@ -1,6 +1,5 @@
 use Rattle.rows.proofs.Walking.{trailing_fits, found, found_fits, skip, walk_end}
 use mathlib.Core.Path.{◌∙◌}
-use Rattle.sets.specs.Set as Set
 use borrow.Author.Rules.{rules}
 use Rattle.rows.proofs.walk.next.Goals as goal
 

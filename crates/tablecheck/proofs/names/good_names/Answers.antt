@@ -1,7 +1,5 @@
 use borrow.Author.Tests.{not-true, not-false}
 use mathlib.Core.Path.{sym, ◌∙◌}
-use mathlib.Core.Bool.{true}
-use Rattle.tables.specs.Writing.{good_name}
 use Rattle.sets.proofs.Every.{every_none, every_on, every_off, every_end}
 use borrow.Author.Rules.{rules}
 use Rattle.tablecheck.proofs.names.good_names.Goals as goal

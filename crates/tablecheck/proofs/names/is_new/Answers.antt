@@ -1,5 +1,5 @@
 use mathlib.Core.Path.{sym, ap, ◌∙◌}
-use mathlib.Core.Bool.{true, not}
+use mathlib.Core.Bool.{not}
 use Rattle.sets.proofs.Every.{every_none, every_on, every_off, every_end}
 use borrow.Author.Rules.{rules}
 use Rattle.tablecheck.proofs.names.is_new.Goals as goal

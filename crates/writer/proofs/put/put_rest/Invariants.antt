@@ -3,7 +3,6 @@ use mathlib.Core.Path.{◌≡◌}
 use Prim.Native.Nat.{◌-◌, ◌≤◌}
 use lib.ListN.{length}
 use Rattle.limits.specs.Book.{names}
-use Rattle.words.specs.Row as Row
 use Rattle.writer.specs.Spelt.{rest_of}
 use Rattle.writer.proofs.Lines.{after}
 use Rattle.copying.proofs.Putting.{Left}
