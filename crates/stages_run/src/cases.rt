@@ -5,7 +5,7 @@
 //   F count k . .      folds, lending so many entries of "all" and spare
 //   R count . . .      runs, after the fold if there is one, lending so many entries of "all", "any", model
 // In a case with S the tables begin as zeros, in one without it "all", "any" and model do; all else begins as marks.
-use crate::{calls, lent, words};
+use crate::{calls, lent, tokens};
 use std::io;
 use std::io::Write;
 use trial::areas::Area;
@@ -13,11 +13,11 @@ use trial::{lines, print};
 
 // The entries that the line at a place gives.
 fn put(text: &[u8], at: usize, area: &mut [u64]) {
-    let mut word = words::next(text, words::next(text, at));
-    let mut i = words::size(text, at, 1);
+    let mut word = tokens::next(text, tokens::next(text, at));
+    let mut i = tokens::size(text, at, 1);
     while i < area.len() && word < text.len() {
-        area[i] = words::number(text, word);
-        word = words::next(text, word);
+        area[i] = tokens::number(text, word);
+        word = tokens::next(text, word);
         i += 1;
     }
 }
@@ -58,11 +58,11 @@ fn standardise<W: Write>(
     let mut all = [Area::MARK64; Area::ROWS];
     let mut any = [Area::MARK64; Area::ROWS];
     let mut model = [Area::MARK64; Area::MODEL];
-    let n = words::size(text, at, 1);
-    let m = words::size(text, at, 2);
-    let a = words::size(text, at, 5);
-    let b = words::size(text, at, 6);
-    let c = words::size(text, at, 7);
+    let n = tokens::size(text, at, 1);
+    let m = tokens::size(text, at, 2);
+    let a = tokens::size(text, at, 5);
+    let b = tokens::size(text, at, 6);
+    let c = tokens::size(text, at, 7);
     if a <= Area::ROWS && b <= Area::ROWS && c <= Area::MODEL {
         calls::standardise(
             out,
@@ -87,9 +87,9 @@ fn plainly<W: Write>(
     bodies: &[u64],
 ) -> io::Result<()> {
     let mut model = [Area::MARK64; Area::MODEL];
-    let n = words::size(text, at, 1);
-    let m = words::size(text, at, 2);
-    let c = words::size(text, at, 7);
+    let n = tokens::size(text, at, 1);
+    let m = tokens::size(text, at, 2);
+    let c = tokens::size(text, at, 7);
     if c <= Area::MODEL {
         calls::plainly(out, heads, bodies, n, m, &mut model[0..c])?;
     }
@@ -103,8 +103,8 @@ fn tables<W: Write>(out: &mut W, text: &[u8], at: usize) -> io::Result<()> {
     fill(text, b'h', &mut wide);
     lent::narrow(&wide, &mut heads);
     fill(text, b'b', &mut bodies);
-    let a = words::size(text, at, 3);
-    let b = words::size(text, at, 4);
+    let a = tokens::size(text, at, 3);
+    let b = tokens::size(text, at, 4);
     standardise(out, text, at, front16(&heads, a), front64(&bodies, b))?;
     plainly(out, text, at, front16(&heads, a), front64(&bodies, b))
 }
@@ -113,10 +113,10 @@ fn tables<W: Write>(out: &mut W, text: &[u8], at: usize) -> io::Result<()> {
 fn fold<W: Write>(out: &mut W, text: &[u8], all: &mut [u64]) -> io::Result<()> {
     let mut spare = [Area::MARK64; Area::ROWS];
     let at = lines::find(text, 0, b'F');
-    let count = words::size(text, at, 1);
-    let k = words::size(text, at, 2);
-    let a = words::size(text, at, 3);
-    let b = words::size(text, at, 4);
+    let count = tokens::size(text, at, 1);
+    let k = tokens::size(text, at, 2);
+    let a = tokens::size(text, at, 3);
+    let b = tokens::size(text, at, 4);
     if at < text.len() && a <= all.len() && b <= Area::ROWS {
         calls::fold(out, &mut all[0..a], &mut spare[0..b], count, k)?;
     }
@@ -132,10 +132,10 @@ fn run<W: Write>(
     model: &mut [u64],
 ) -> io::Result<()> {
     let at = lines::find(text, 0, b'R');
-    let count = words::size(text, at, 1);
-    let a = words::size(text, at, 2);
-    let b = words::size(text, at, 3);
-    let c = words::size(text, at, 4);
+    let count = tokens::size(text, at, 1);
+    let a = tokens::size(text, at, 2);
+    let b = tokens::size(text, at, 3);
+    let c = tokens::size(text, at, 4);
     if at < text.len() && c <= model.len() {
         calls::run(
             out,

@@ -7,7 +7,7 @@ mod calls;
 mod cases;
 mod lent;
 mod print;
-mod words;
+mod tokens;
 
 use std::fs::Files;
 use std::io::{BufWriter, Write};
