@@ -1,6 +1,7 @@
 use mathlib.Core.Path.{refl, sym}
 use mathlib.Core.Logic.{inl, inr, ⊎_elim}
 use native.Mathlib.Omega.{arith}
+use borrow.Author.Rules.{rules}
 use Rattle.scan.proofs.Tables.{stray_start, stray_more, stray_found, stray_none}
 use Rattle.scan.proofs.table.any_unsettled.Goals as goal
 
@@ -18,14 +19,14 @@ pub returns-then-table-entry : goal.returns-then-table-entry
 returns-then-table-entry c =
     sym
     (stray_found c.args.table.now c.loop-b.b _ refl (omega arith)
-    (c.type_inv.table c.loop-b.b).fits c.if-entry-ne0.true c.if-table-entry.true-raw)
+    (c.type_inv.table c.loop-b.b).fits (search rules) c.if-table-entry.true-raw)
 
 pub loop-b-preserved : goal.loop-b-preserved
 loop-b-preserved c = (
   omega arith,
   stray_more c.args.table.now c.loop-b.b _ refl (omega arith)
       (c.type_inv.table c.loop-b.b).fits c.loop-b.invariant.1
-      (⊎_elim (λ w. inr w.if-table-entry.false-raw) (λ w. inl w.if-entry-ne0.false) c.else-entry-ne0.branch-raw),
+      (⊎_elim (λ w. inr w.if-table-entry.false-raw) (λ w. inl (search rules)) c.else-entry-ne0.branch-raw),
 )
 
 pub returns : goal.returns
