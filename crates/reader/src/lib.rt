@@ -333,6 +333,7 @@ fn too_short(spellings: usize, heads: usize, bodies: usize) -> bool
 }
 
 // Reads the text into the areas, by the letters of the lent table.
+#[tactic(auto, using(crate::proofs::Calling::call_cause, crate::proofs::Calling::call_long))]
 pub fn read(
     text: &[u8],
     table: &[u8],

@@ -78,6 +78,7 @@ pub fn several(heads: &[u16], m: usize) -> [u64; Book::BODY_WORDS]
 }
 
 // How many of the first m rules have a head in that row.
+#[tactic(auto, using(crate::proofs::Names::counted_in, crate::proofs::Names::counted_out))]
 pub fn helpers(heads: &[u16], m: usize, several: &[u64]) -> usize
     requires { (m ≤ rules) × (rules ≤ length heads.now) × (body_words ≤ length several.now)
         × ((j : ℕ) → j < m → get_or heads.now j 0 < names) }

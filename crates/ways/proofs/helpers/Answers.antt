@@ -1,7 +1,5 @@
 use native.Mathlib.Omega.{arith}
-use mathlib.Core.Logic.{⊎_elim}
-use mathlib.Core.Path.{sym, ◌∙◌}
-use Rattle.ways.proofs.Names.{counted_none, counted_in, counted_out, counted_end}
+use Rattle.ways.proofs.Names.{counted_none, counted_end}
 use borrow.Author.Rules.{rules}
 use Rattle.ways.proofs.helpers.Goals as goal
 
@@ -13,12 +11,6 @@ overflow_cast-heads c = omega (arith, c.type_inv.heads c.loop-k.k)
 
 pub member-requires : goal.member-requires
 member-requires c = (search rules, c.requires.3 _ c.loop-k-test.true)
-
-pub loop-k-preserved : goal.loop-k-preserved
-loop-k-preserved c =
-    let met = c.member.ensures in
-    ⊎_elim (λ w. (search rules, search rules, w.found-is ∙ counted_in _ _ _ c.loop-k.invariant.2 (sym met ∙ w.if-member.true)))
-    (λ w. (search rules, search rules, w.found-is ∙ counted_out _ _ _ c.loop-k.invariant.2 (sym met ∙ w.if-member.false))) c.if-member.branch-raw
 
 pub returns : goal.returns
 returns c = counted_end _ _ _ _ c.loop-k.invariant.0 c.loop-k-test.false c.loop-k.invariant.2
