@@ -93,7 +93,8 @@ pub fn fill(
             home = helper;
             helper += 1;
         }
-        if place(bodies, j, home, all, model) {
+        let counted = place(bodies, j, home, all, model);
+        if counted {
             c += 1;
         }
         j += 1;

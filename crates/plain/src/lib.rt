@@ -42,7 +42,8 @@ fn step(heads: &[u16], bodies: &[u64], m: usize, v: &[u64], next: &mut [u64])
 {
     let mut j = 0;
     while j < m {
-        if rows::read::within(bodies, Book::body_at(j), v, 0, Book::BODY_WORDS) {
+        let holds = rows::read::within(bodies, Book::body_at(j), v, 0, Book::BODY_WORDS);
+        if holds {
             rows::write::insert(next, 0, Book::ROW_WORDS, heads[j] as usize);
         }
         j += 1;

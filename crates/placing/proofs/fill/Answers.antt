@@ -43,8 +43,8 @@ overflow_add-helper c =
       helper_small ready c.loop-j.invariant c.loop-j-test.true c.member.ensures c.if-member.true,
     )
 
-pub place-requires : goal.place-requires
-place-requires c =
+pub place-counted-requires : goal.place-counted-requires
+place-counted-requires c =
     let ready = c.requires in
     let t = c.loop-j-test.true in
     let housed =
@@ -66,8 +66,8 @@ loop-j-preserved c =
     (λ w. with_helper ready c.loop-j.invariant t c.member.ensures w.if-member.true w.row_at.ensures w.insert.ensures w.any-is w.helper-is w.home-is)
     (λ w. without_helper ready c.loop-j.invariant t c.member.ensures w.if-member.false w.any-is w.helper-is w.home-is) c.if-member.branch-raw
     in
-    ⊎_elim (λ w. placed_body ready c.loop-j.invariant t housed c.place.ensures.body c.place.ensures.all c.place.ensures.model w.if-place.true w.c-is)
-    (λ w. placed_fact ready c.loop-j.invariant t housed c.place.ensures.body c.place.ensures.all c.place.ensures.model w.if-place.false w.c-is) c.if-place.branch-raw
+    ⊎_elim (λ w. placed_body ready c.loop-j.invariant t housed c.place-counted.ensures.body c.place-counted.ensures.all c.place-counted.ensures.model w.if-counted.true w.c-is)
+    (λ w. placed_fact ready c.loop-j.invariant t housed c.place-counted.ensures.body c.place-counted.ensures.all c.place-counted.ensures.model w.if-counted.false w.c-is) c.if-counted.branch-raw
 
 pub returns : goal.returns
 returns c = placed_all c.requires c.loop-j.invariant c.loop-j-test.false

@@ -17,13 +17,13 @@ insert-requires c = (search rules, omega (arith, c.requires.3 _ c.loop-j-test.tr
 
 pub loop-j-preserved : goal.loop-j-preserved
 loop-j-preserved c =
-    let r = body_test c.args.bodies.now c.args.v.now c.loop-j.j _ _ c.body_at.ensures c.within.ensures in
+    let r = body_test c.args.bodies.now c.args.v.now c.loop-j.j _ _ c.body_at.ensures c.within-holds.ensures in
     let q =
-    step_length _ c.args.v.now c.args.next.now c.if-within.next (c.loop-j.j + 1) c.requires.2
+    step_length _ c.args.v.now c.args.next.now c.if-holds.next (c.loop-j.j + 1) c.requires.2
     (⊎_elim
-    (λ u. u.next-is ∙ step_in _ c.args.v.now c.args.next.now _ _ c.loop-j.invariant.2 _ r _ u.if-within.true u.insert.ensures)
-    (λ u. u.next-is ∙ step_out _ c.args.v.now c.args.next.now _ _ c.loop-j.invariant.2 _ r u.if-within.false)
-    c.if-within.branch-raw) in
+    (λ u. u.next-is ∙ step_in _ c.args.v.now c.args.next.now _ _ c.loop-j.invariant.2 _ r _ u.if-holds.true u.insert.ensures)
+    (λ u. u.next-is ∙ step_out _ c.args.v.now c.args.next.now _ _ c.loop-j.invariant.2 _ r u.if-holds.false)
+    c.if-holds.branch-raw) in
     (omega (arith, c.loop-j-test.true), q.0, q.1)
 
 pub returns : goal.returns
