@@ -7,7 +7,7 @@ use native.Mathlib.Omega.{arith}
 use lib.ListN.{length, take, drop, replicate, length-append, length-drop, length-replicate, take-append-drop, replicate-append-replicate}
 use lib.Seq.{take_at, drop_at, take-append_seam, drop-drop, take_all}
 use borrow.Rule.Slice.PartMut.{mid_of, put_mid, mid_len, Post-is}
-use Rattle.areas.specs.Area.{begun, filled, cleared, Clear}
+use Rattle.areas.specs.Area.{begun, filled, cleared_to, cleared, Clear}
 use Rattle.areas.proofs.Begun.{drop_begun, used, zeros_front}
 
 -- a filled area is as long as it was
@@ -94,11 +94,11 @@ filled_zeros size u old l =
     ∙ sym (filled_is size [] old)
 
 -- a part that comes back all zero
-pub part_cleared : (a e : ℕ) (xs ys : List ℕ) → a ≤ e → e ≤ length xs
-    → ys ≡ replicate (length (mid_of a (e - a) xs)) 0 → put_mid a (e - a) xs ys ≡ cleared a e xs
-part_cleared a e xs ys h g z =
-    ap (λ (zs : List ℕ). take a xs ++ (zs ++ drop (e - a) (drop a xs))) (z ∙ ap (λ (k : ℕ). replicate k 0) (mid_len a e xs g))
-    ∙ ap (λ (zs : List ℕ). take a xs ++ (replicate (e - a) 0 ++ zs)) (Post-is a e xs h)
+pub part_cleared : {A : Type 0} (z : A) (a e : ℕ) (xs ys : List A) → a ≤ e → e ≤ length xs
+    → ys ≡ replicate (length (mid_of a (e - a) xs)) z → put_mid a (e - a) xs ys ≡ cleared_to z a e xs
+part_cleared z a e xs ys h g q =
+    ap (λ zs. take a xs ++ (zs ++ drop (e - a) (drop a xs))) (q ∙ ap (λ (k : ℕ). replicate k z) (mid_len a e xs g))
+    ∙ ap (λ zs. take a xs ++ (replicate (e - a) z ++ zs)) (Post-is a e xs h)
 
 -- an area that was clear, and has changed below place a alone: from there on nothing is to be cleared
 pub still_clear : (a e : ℕ) (old new : List ℕ) → Clear e old → drop a new ≡ drop a old → a ≤ e → cleared a e new ≡ new

@@ -18,9 +18,13 @@ begun xs old = xs ++ drop (length xs) old
 unfoldable pub filled : ℕ → List ℕ → List ℕ → List ℕ
 filled size xs old = xs ++ (replicate (size - length xs) 0 ++ drop size old)
 
--- zeros from place a up to e, the rest as it was
+-- z in each place from a up to e, the rest as it was
+abbrev pub cleared_to : {A : Type 0} → A → ℕ → ℕ → List A → List A
+cleared_to z a e xs = take a xs ++ (replicate (e - a) z ++ drop e xs)
+
+-- zeros there
 abbrev pub cleared : ℕ → ℕ → List ℕ → List ℕ
-cleared a e xs = take a xs ++ (replicate (e - a) 0 ++ drop e xs)
+cleared a e xs = cleared_to 0 a e xs
 
 -- zero over its first `size` elements
 abbrev pub Clear : ℕ → List ℕ → Type 0

@@ -11,13 +11,16 @@ use std::{env, io};
 use trial::files;
 
 // In a file to be swept, a book, each `?` takes every byte value.
-fn argument<R: Files + Eprint, W: Write>(rt: &R, out: &mut W, path: &str) -> io::Result<()> {
-    let mut text = [0u8; files::INPUT];
-    let got = files::take(rt, out, path, &mut text)?;
+fn argument<R: Files + AllocGlobal + Eprint, W: Write>(
+    rt: &R,
+    out: &mut W,
+    path: &str,
+) -> io::Result<()> {
+    let text = files::take(rt, out, path)?;
     if files::swept(path) {
-        whole::sweep(out, &text[..got])
+        whole::sweep(out, &text)
     } else {
-        whole::show(out, &text[..got])
+        whole::show(out, &text)
     }
 }
 

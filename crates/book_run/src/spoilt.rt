@@ -2,346 +2,269 @@
 // that are too short.
 use crate::whole;
 use limits::Book;
+use reader::Counts;
 use scan::table::folding;
 use std::io;
 use std::io::Write;
-use trial::areas::Area;
-use trial::print;
+use trial::lent::{LentTables, Marked, Place, TEXT, Tables};
+use trial::{lent, print};
 
-// Writes into the first bytes of an area, and prints number, length and a checksum of the area.
-fn written_to<W: Write>(
-    out: &mut W,
-    spellings: &[u8],
-    heads: &[u16],
-    bodies: &[u64],
-    n: usize,
-    m: usize,
-    text: &mut [u8],
-    room: usize,
-) -> io::Result<()> {
-    let table = folding();
-    if room <= text.len() {
-        let w = writer::write(spellings, heads, bodies, &table, n, m, &mut text[0..room]);
-        print::first(out, w.number as u64)?;
-        print::number(out, w.size as u64)?;
-        print::total8(out, text)?;
-        print::end(out)?;
-    }
-    Ok(())
-}
-
-// Writes into the first bytes of an area of its own.
+// Writes into the first bytes of an area of its own, and prints number, length and a checksum of the area.
 fn written_in<W: Write>(
     out: &mut W,
-    spellings: &[u8],
-    heads: &[u16],
-    bodies: &[u64],
-    n: usize,
-    m: usize,
+    tables: &LentTables,
+    book: Counts,
     room: usize,
 ) -> io::Result<()> {
-    let mut text = [Area::MARK8; Area::TEXT];
-    written_to(out, spellings, heads, bodies, n, m, &mut text, room)
+    let mut text = [u8::MARK; TEXT];
+    let answer = tables.write(&folding(), book, lent::first(&mut text, room));
+    write!(out, "{} {}", print::number(&answer), answer.unwrap_or(0))?;
+    print::total(out, &text)?;
+    writeln!(out)
 }
 
-fn written<W: Write>(
-    out: &mut W,
-    spellings: &[u8],
-    heads: &[u16],
-    bodies: &[u64],
-    n: usize,
-    m: usize,
-) -> io::Result<()> {
-    written_in(out, spellings, heads, bodies, n, m, Area::TEXT)
+fn written<W: Write>(out: &mut W, tables: &LentTables, book: Counts) -> io::Result<()> {
+    written_in(out, tables, book, TEXT)
 }
 
-// The writer on the tables, and the reader of another book into their areas.
-fn both<W: Write>(
-    out: &mut W,
-    spellings: &mut [u8],
-    heads: &mut [u16],
-    bodies: &mut [u64],
-) -> io::Result<()> {
-    written(out, spellings, heads, bodies, 4, 4)?;
-    whole::judge(out, b"DPB 0001\na:\n", spellings, heads, bodies)?;
-    Ok(())
-}
-
-// Both on the first entries of each area.
-fn both_in<W: Write>(
-    out: &mut W,
-    spellings: &mut [u8],
-    heads: &mut [u16],
-    bodies: &mut [u64],
-    a: usize,
-    b: usize,
-    c: usize,
-) -> io::Result<()> {
-    if a <= spellings.len() && b <= heads.len() && c <= bodies.len() {
-        both(
-            out,
-            &mut spellings[0..a],
-            &mut heads[0..b],
-            &mut bodies[0..c],
-        )?;
-    }
-    Ok(())
-}
-
-// A name by number from the first bytes of the name area, in brackets.
-fn look_up_in<W: Write>(
-    out: &mut W,
-    spellings: &[u8],
-    size: usize,
-    n: usize,
-    a: usize,
-) -> io::Result<()> {
-    if size <= spellings.len() {
-        print::text(out, b"[")?;
-        print::text(out, lexicon::look_up::look_up(&spellings[0..size], n, a))?;
-        print::line(out, b"]")?;
-    }
-    Ok(())
-}
-
-fn set8(area: &mut [u8], at: usize, value: u8) {
-    if at < area.len() {
-        area[at] = value;
+fn set<E: Copy>(area: &mut [E], at: usize, value: E) {
+    if let Some(entry) = area.get_mut(at) {
+        *entry = value;
     }
 }
 
-fn set16(area: &mut [u16], at: usize, value: u16) {
-    if at < area.len() {
-        area[at] = value;
-    }
-}
+// Of the small book: names p q r s, four rules.
+const SMALL: Counts = Counts { names: 4, rules: 4 };
 
-fn set64(area: &mut [u64], at: usize, value: u64) {
-    if at < area.len() {
-        area[at] = value;
-    }
-}
-
-// The small book's tables: names p q r s, four rules.
-fn small(spellings: &mut [u8], heads: &mut [u16], bodies: &mut [u64]) {
-    let table = folding();
-    reader::read(
-        b"DPB 0001\np:q\nq:p r\nq:s\ns:\n",
-        &table,
-        spellings,
-        heads,
-        bodies,
-    );
+fn small() -> Tables {
+    let mut tables = Tables::marked();
+    let _ = tables
+        .whole()
+        .read(b"DPB 0001\np:q\nq:p r\nq:s\ns:\n", &folding());
+    tables
 }
 
 // With other counts.
-fn counts<W: Write>(out: &mut W, n: usize, m: usize) -> io::Result<()> {
-    let mut spellings = [Area::MARK8; Area::SPELLINGS];
-    let mut heads = [Area::MARK16; Area::HEADS];
-    let mut bodies = [Area::MARK64; Area::BODIES];
-    small(&mut spellings, &mut heads, &mut bodies);
-    written(out, &spellings, &heads, &bodies, n, m)
+fn counts<W: Write>(out: &mut W, names: usize, rules: usize) -> io::Result<()> {
+    let mut tables = small();
+    written(out, &tables.whole(), Counts { names, rules })
 }
 
-// With another byte in the name area.
+// With an entry changed.
+fn spoilt<W: Write, F: FnOnce(&mut Tables)>(out: &mut W, spoil: F) -> io::Result<()>
+    requires { F.IsAlwaysCallable spoil }
+{
+    let mut tables = small();
+    spoil(&mut tables);
+    written(out, &tables.whole(), SMALL)
+}
+
 fn spelling<W: Write>(out: &mut W, at: usize, value: u8) -> io::Result<()> {
-    let mut spellings = [Area::MARK8; Area::SPELLINGS];
-    let mut heads = [Area::MARK16; Area::HEADS];
-    let mut bodies = [Area::MARK64; Area::BODIES];
-    small(&mut spellings, &mut heads, &mut bodies);
-    set8(&mut spellings, at, value);
-    written(out, &spellings, &heads, &bodies, 4, 4)
+    spoilt(out, |tables| set(&mut tables.spellings, at, value))
 }
 
-// With another head.
 fn head<W: Write>(out: &mut W, at: usize, value: u16) -> io::Result<()> {
-    let mut spellings = [Area::MARK8; Area::SPELLINGS];
-    let mut heads = [Area::MARK16; Area::HEADS];
-    let mut bodies = [Area::MARK64; Area::BODIES];
-    small(&mut spellings, &mut heads, &mut bodies);
-    set16(&mut heads, at, value);
-    written(out, &spellings, &heads, &bodies, 4, 4)
+    spoilt(out, |tables| set(&mut tables.heads, at, value))
 }
 
-// With another body word.
 fn body<W: Write>(out: &mut W, at: usize, value: u64) -> io::Result<()> {
-    let mut spellings = [Area::MARK8; Area::SPELLINGS];
-    let mut heads = [Area::MARK16; Area::HEADS];
-    let mut bodies = [Area::MARK64; Area::BODIES];
-    small(&mut spellings, &mut heads, &mut bodies);
-    set64(&mut bodies, at, value);
-    written(out, &spellings, &heads, &bodies, 4, 4)
+    spoilt(out, |tables| set(&mut tables.bodies, at, value))
 }
 
-// With areas of these lengths, for the writer and for the reader.
-fn lengths<W: Write>(out: &mut W, a: usize, b: usize, c: usize) -> io::Result<()> {
-    let mut spellings = [Area::MARK8; Area::SPELLINGS];
-    let mut heads = [Area::MARK16; Area::HEADS];
-    let mut bodies = [Area::MARK64; Area::BODIES];
-    small(&mut spellings, &mut heads, &mut bodies);
-    both_in(out, &mut spellings, &mut heads, &mut bodies, a, b, c)
+// The number for one of the three areas.
+fn of_three(place: Place, spellings: usize, heads: usize, bodies: usize) -> usize {
+    match place {
+        Place::Spellings => spellings,
+        Place::Heads => heads,
+        _ => bodies,
+    }
+}
+
+// With areas of so many entries less than stated, for the writer and for the reader of another book.
+fn short<W: Write>(out: &mut W, a: usize, b: usize, c: usize) -> io::Result<()> {
+    let mut tables = small();
+    let mut lent = tables.lend(|place, stated| stated.saturating_sub(of_three(place, a, b, c)));
+    written(out, &lent, SMALL)?;
+    whole::judge(out, b"DPB 0001\na:\n", &mut lent)?;
+    Ok(())
 }
 
 // With a text area of this length.
 fn room<W: Write>(out: &mut W, d: usize) -> io::Result<()> {
-    let mut spellings = [Area::MARK8; Area::SPELLINGS];
-    let mut heads = [Area::MARK16; Area::HEADS];
-    let mut bodies = [Area::MARK64; Area::BODIES];
-    small(&mut spellings, &mut heads, &mut bodies);
-    written_in(out, &spellings, &heads, &bodies, 4, 4, d)
+    let mut tables = small();
+    written_in(out, &tables.whole(), SMALL, d)
 }
 
-// A name by number, from a name area of this length.
+// A name by number, from a name area of this length, in brackets.
 fn look_up<W: Write>(out: &mut W, size: usize, n: usize, a: usize) -> io::Result<()> {
-    let mut spellings = [Area::MARK8; Area::SPELLINGS];
-    let mut heads = [Area::MARK16; Area::HEADS];
-    let mut bodies = [Area::MARK64; Area::BODIES];
-    small(&mut spellings, &mut heads, &mut bodies);
-    look_up_in(out, &spellings, size, n, a)
+    let mut tables = small();
+    let spellings = lent::first(&mut tables.spellings, size);
+    out.write_all(b"[")?;
+    out.write_all(lexicon::look_up::look_up(spellings, n, a))?;
+    print::line(out, b"]")
 }
 
-// As many names as there is room for, each of the full length, all different in their first two bytes.
-fn long_names(spellings: &mut [u8]) {
+// As many names as there is room for, each of the full length, all different in their first two bytes; m rules with all names as body
+// and name 0 as head.
+fn long_tables(m: usize) -> Tables {
+    let mut tables = Tables::marked();
+    tables.spellings.fill(b'a');
+    tables.heads.fill(0);
+    tables.bodies.fill(0);
     for a in 0..Book::NAMES {
         let at = Book::name_at(a);
-        set8(spellings, at, b'a' + (a % 16) as u8);
-        set8(spellings, at + 1, b'a' + (a / 16) as u8);
+        set(&mut tables.spellings, at, b'a' + (a % 16) as u8);
+        set(&mut tables.spellings, at + 1, b'a' + (a / 16) as u8);
+    }
+    tables.whole().fill_bodies(m);
+    tables
+}
+
+fn long_book(rules: usize) -> Counts {
+    Counts {
+        names: Book::NAMES,
+        rules,
     }
 }
 
-// The bodies of the first m rules become all names.
-fn full_bodies(bodies: &mut [u64], m: usize) {
-    for (j, word) in bodies.iter_mut().enumerate() {
-        if j / Book::BODY_WORDS < m {
-            *word = u64::MAX;
-        }
-    }
-}
-
-// The writer on the long names and m rules, all with name 0 as head.
-fn long_written<W: Write>(
-    out: &mut W,
-    spellings: &[u8],
-    bodies: &[u64],
-    m: usize,
-) -> io::Result<()> {
-    let heads = [0u16; Area::HEADS];
-    written(out, spellings, &heads, bodies, Book::NAMES, m)
-}
-
-// m rules with all names as body; `last` in the last byte of name 0.
+// Those tables with `last` in the last byte of name 0.
 fn long<W: Write>(out: &mut W, m: usize, last: u8) -> io::Result<()> {
-    let mut spellings = [b'a'; Area::SPELLINGS];
-    let mut bodies = [0u64; Area::BODIES];
-    long_names(&mut spellings);
-    set8(&mut spellings, Book::NAME_BYTES - 1, last);
-    full_bodies(&mut bodies, m);
-    long_written(out, &spellings, &bodies, m)
+    let mut tables = long_tables(m);
+    set(&mut tables.spellings, Book::NAME_BYTES - 1, last);
+    written(out, &tables.whole(), long_book(m))
 }
 
 // The last bytes of the name that ends there become padding.
 fn shorten(spellings: &mut [u8], end: usize, less: usize) {
-    if less <= end && end <= spellings.len() {
-        rows::clear::clear_tail8(spellings, end - less, end);
+    if let Some(last) = spellings.get_mut(end.saturating_sub(less)..end) {
+        last.fill(0);
     }
 }
 
 // Three such rules and one of the names 1 to 109, with the last bytes of names 1 and 127 cut off.
 fn cut<W: Write>(out: &mut W, one: usize, other: usize) -> io::Result<()> {
-    let mut spellings = [b'a'; Area::SPELLINGS];
-    let mut bodies = [0u64; Area::BODIES];
-    long_names(&mut spellings);
-    shorten(&mut spellings, 2 * Book::NAME_BYTES, one);
-    shorten(&mut spellings, Book::NAME_AREA, other);
-    full_bodies(&mut bodies, 3);
-    set64(&mut bodies, 3 * Book::BODY_WORDS, u64::MAX - 1);
-    set64(&mut bodies, 3 * Book::BODY_WORDS + 1, (1 << 46) - 1);
-    long_written(out, &spellings, &bodies, 4)
+    let mut tables = long_tables(3);
+    shorten(&mut tables.spellings, 2 * Book::NAME_BYTES, one);
+    shorten(&mut tables.spellings, Book::NAME_AREA, other);
+    set(&mut tables.bodies, 3 * Book::BODY_WORDS, u64::MAX - 1);
+    set(&mut tables.bodies, 3 * Book::BODY_WORDS + 1, (1 << 46) - 1);
+    written(out, &tables.whole(), long_book(4))
 }
 
 // A short name area and a text that would be refused for itself.
 fn first_cause<W: Write>(out: &mut W, text: &[u8]) -> io::Result<()> {
-    let mut spellings = [Area::MARK8; Book::NAME_AREA - 1];
-    let mut heads = [Area::MARK16; Book::RULES];
-    let mut bodies = [Area::MARK64; Book::BODY_AREA];
-    whole::judge(out, text, &mut spellings, &mut heads, &mut bodies)?;
+    let mut tables = Tables::marked();
+    let mut lent = tables.lend(|place, _| of_three(
+        place,
+        Book::NAME_AREA - 1,
+        Book::RULES,
+        Book::BODY_AREA,
+    ));
+    whole::judge(out, text, &mut lent)?;
     Ok(())
 }
 
 fn writer_counts<W: Write>(out: &mut W) -> io::Result<()> {
-    counts(out, 4, 4)?;
-    counts(out, 4, 5)?;
-    counts(out, 5, 4)?;
-    counts(out, 3, 4)?;
-    counts(out, 4, 3)?;
-    counts(out, Book::NAMES + 1, 4)?;
-    counts(out, 4, Book::RULES + 1)
+    for (names, rules) in [
+        (4, 4),
+        (4, 5),
+        (5, 4),
+        (3, 4),
+        (4, 3),
+        (Book::NAMES + 1, 4),
+        (4, Book::RULES + 1),
+    ] {
+        counts(out, names, rules)?;
+    }
+    Ok(())
 }
 
 fn writer_names<W: Write>(out: &mut W) -> io::Result<()> {
-    spelling(out, 0, b'P')?;
-    spelling(out, 0, 0)?;
-    spelling(out, 0, b':')?;
-    spelling(out, 1, b'p')?;
-    spelling(out, 2, b'p')?;
-    spelling(out, Book::NAME_BYTES, b'p')?;
-    spelling(out, Book::NAME_AREA - 1, b'a')?;
-    spelling(out, Book::NAME_AREA, b'a')
+    for (at, value) in [
+        (0, b'P'),
+        (0, 0),
+        (0, b':'),
+        (1, b'p'),
+        (2, b'p'),
+        (Book::NAME_BYTES, b'p'),
+        (Book::NAME_AREA - 1, b'a'),
+        (Book::NAME_AREA, b'a'),
+    ] {
+        spelling(out, at, value)?;
+    }
+    Ok(())
 }
 
-fn writer_rules<W: Write>(out: &mut W) -> io::Result<()> {
-    head(out, 0, 1)?;
-    head(out, 1, 2)?;
-    head(out, 2, 4)?;
-    head(out, 3, 0)?;
-    head(out, 4, 1)?;
-    head(out, Book::RULES - 1, 1)?;
-    head(out, Book::RULES, 1)?;
-    body(out, 0, 4)?;
-    body(out, 0, 18)?;
-    body(out, 1, 1)?;
-    body(out, Book::BODY_WORDS, 1)?;
-    body(out, 4 * Book::BODY_WORDS, 1)?;
-    body(out, Book::BODY_AREA - 1, 1)?;
-    body(out, Book::BODY_AREA, 1)
+fn writer_heads<W: Write>(out: &mut W) -> io::Result<()> {
+    for (at, value) in [
+        (0, 1),
+        (1, 2),
+        (2, 4),
+        (3, 0),
+        (4, 1),
+        (Book::RULES - 1, 1),
+        (Book::RULES, 1),
+    ] {
+        head(out, at, value)?;
+    }
+    Ok(())
+}
+
+fn writer_bodies<W: Write>(out: &mut W) -> io::Result<()> {
+    for (at, value) in [
+        (0, 4),
+        (0, 18),
+        (1, 1),
+        (Book::BODY_WORDS, 1),
+        (4 * Book::BODY_WORDS, 1),
+        (Book::BODY_AREA - 1, 1),
+        (Book::BODY_AREA, 1),
+    ] {
+        body(out, at, value)?;
+    }
+    Ok(())
 }
 
 fn short_areas<W: Write>(out: &mut W) -> io::Result<()> {
-    lengths(out, Book::NAME_AREA, Book::RULES, Book::BODY_AREA)?;
-    lengths(out, Book::NAME_AREA - 1, Book::RULES, Book::BODY_AREA)?;
-    lengths(out, Book::NAME_AREA, Book::RULES - 1, Book::BODY_AREA)?;
-    lengths(out, Book::NAME_AREA, Book::RULES, Book::BODY_AREA - 1)?;
+    for (a, b, c) in [(0, 0, 0), (1, 0, 0), (0, 1, 0), (0, 0, 1)] {
+        short(out, a, b, c)?;
+    }
     room(out, Book::TEXT_BYTES)?;
     room(out, Book::TEXT_BYTES - 1)
 }
 
 fn long_texts<W: Write>(out: &mut W) -> io::Result<()> {
-    long(out, 3, b'a')?;
-    long(out, 4, b'a')?;
-    long(out, 4, b'A')?;
+    for (m, last) in [(3, b'a'), (4, b'a'), (4, b'A')] {
+        long(out, m, last)?;
+    }
     cut(out, 2, 6)?;
     cut(out, 4, 3)
 }
 
 fn first_causes<W: Write>(out: &mut W) -> io::Result<()> {
-    let long = [0u8; Book::TEXT_BYTES + 1];
-    first_cause(out, &long)?;
+    first_cause(out, &[0; Book::TEXT_BYTES + 1])?;
     first_cause(out, b"DPB 0002\n")
 }
 
 fn look_ups<W: Write>(out: &mut W) -> io::Result<()> {
-    look_up(out, Book::NAME_AREA, 4, 0)?;
-    look_up(out, Book::NAME_AREA, 4, 3)?;
-    look_up(out, Book::NAME_AREA, 4, 4)?;
-    look_up(out, Book::NAME_AREA, Book::NAMES, 4)?;
-    look_up(out, Book::NAME_AREA, Book::NAMES + 1, 0)?;
-    look_up(out, Book::NAME_AREA - 1, 4, 0)
+    for (size, n, a) in [
+        (Book::NAME_AREA, 4, 0),
+        (Book::NAME_AREA, 4, 3),
+        (Book::NAME_AREA, 4, 4),
+        (Book::NAME_AREA, Book::NAMES, 4),
+        (Book::NAME_AREA, Book::NAMES + 1, 0),
+        (Book::NAME_AREA - 1, 4, 0),
+    ] {
+        look_up(out, size, n, a)?;
+    }
+    Ok(())
 }
 
 pub fn all<W: Write>(out: &mut W) -> io::Result<()> {
     writer_counts(out)?;
     writer_names(out)?;
-    writer_rules(out)?;
+    writer_heads(out)?;
+    writer_bodies(out)?;
     short_areas(out)?;
     long_texts(out)?;
     first_causes(out)?;

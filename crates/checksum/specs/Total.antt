@@ -1,6 +1,7 @@
 -- A checksum over the entries of an area, in their order.
 -- Assumes nothing.
-use Rattle.std.specs.Prelude.{List, [], ◌∷◌, ℕ, ◌+◌, ◌*◌, ◌/◌, ◌%◌}
+use Rattle.std.specs.Prelude.{List, ℕ, ◌+◌, ◌*◌, ◌/◌, ◌%◌}
+use Rattle.std.specs.List.{fold}
 
 -- the largest prime of 16 bits
 abbrev pub modulus : ℕ
@@ -15,10 +16,13 @@ unfoldable pub mixed : ℕ → ℕ → ℕ
 mixed s x = digit (digit (digit (s % modulus) (x % modulus)) (x / modulus % modulus)) (x / modulus / modulus)
 
 -- the checksum of the entries after s
-unfoldable pub onward : ℕ → List ℕ → ℕ
-onward s [] = s
-onward s (x ∷ xs) = onward (mixed s x) xs
+abbrev pub onward : ℕ → List ℕ → ℕ
+onward s xs = fold mixed s xs
 
--- the checksum of an area
+-- the checksum of an area, each of its entries by the number that it stands for
+abbrev pub total_by : {A : Type 0} → (A → ℕ) → List A → ℕ
+total_by number xs = fold (λ s x. mixed s (number x)) 0 xs
+
+-- the checksum of an area of numbers
 abbrev pub total : List ℕ → ℕ
-total xs = onward 0 xs
+total xs = total_by (λ n. n) xs

@@ -17,6 +17,7 @@ use Rattle.grammar.specs.Lines.{span, run, past, words_of, is_name, all_names, s
 use Rattle.grammar.proofs.Spans.{run_size, all_run, past_past}
 use Rattle.grammar.proofs.Words.{blank_end, name_end, uncolon, with_colon, all_named, not_named, words_nil, words_past, names_nil, words_sound, words_more}
 use Rattle.grammar.proofs.Sorts.{words_nil as none-sound, all_sound, fault_words, sound_words}
+use Rattle.scan.specs.declared.cursor.Cursor.{Cursor}
 use Rattle.scan.specs.Places.{past_at, name_run}
 use Rattle.clause.specs.Line.{LineEnds, line_at, form_from, words_at, unblank, unword, fault_of}
 use Rattle.clause.proofs.Places.{starts_eq, closed_past, line_past, run_line, end_past, sees_line, sees_end, end_here, sees_more, closed_next}
@@ -52,9 +53,11 @@ module _ (fold : ℕ → ℕ) where
       let n : length (name_run fold t i) ≡ span (name_byte fold) (drop i t) = run_size (name_byte fold) (drop i t) in
       omega (arith, leb-true 1 (length (name_run fold t i)) (and_left (leb 1 (length (name_run fold t i))) _ e))
 
-  -- past a word, whose end is known, and the blanks after it
-  pub past_word : (t : Bytes) (i end at : ℕ) → end ≡ past_at (name_byte fold) t i → at ≡ unblank t end → at ≡ unword fold t i
-  past_word t i end at e q = q ∙ ap (unblank t) e
+  -- past a word, whose end is known, and the blanks after it, by two moves of the cursor
+  pub past_word : (t : Bytes) (i end line : ℕ) (moved past : Cursor) → end ≡ past_at (name_byte fold) t i → moved ≡ record { at = end; line = line }
+      → past ≡ record { at = unblank t moved.at; line = moved.line } → past.at ≡ unword fold t i
+  past_word t i end line moved past e m q =
+      ap (λ (k : Cursor). k.at) q ∙ ap (λ (k : Cursor). unblank t k.at) m ∙ ap (unblank t) e
 
 -- a fault has its number
 pub fault_number : (f : Form) (k : ℕ) → f ≡ fault k → k ≡ fault_of f

@@ -8,10 +8,11 @@ use native.Mathlib.Omega.{arith}
 use lib.Dec.{eqb, leb}
 use lib.ListN.{length}
 use borrow.Author.Tests.{leb-true, leb-false, le-leb, lt-leb}
-use Rattle.limits.specs.Book.{names, body_words}
+use Rattle.std.specs.Prelude.{Option, Some, None, is_some, IfSome}
+use Rattle.std.specs.Option.{unwrap_or}
+use Rattle.limits.specs.Book.{names}
 use Rattle.sets.specs.Set.{Set, only, union}
 use Rattle.sets.proofs.Logic.{either, clash}
-use Rattle.areas.specs.Area.{part, put}
 use Rattle.words.specs.Row.{row, pack}
 use Rattle.grammar.specs.Bytes.{Bytes}
 use Rattle.tables.specs.Numbering.{place, meet, meet_all, places}
@@ -113,11 +114,7 @@ module _ (r₀ : Bool) (ns ws : List Bytes) (r₁ : Bool) (x₁ : Lexicon) (row 
   named_now : (e : r₁ ≡ true) → Named (meet_all ns ws) x₁
   named_now e = (k.joins (opened e)).named e
 
-  -- what the next name needs
-  pub onward_ready : r₁ ≡ true → InOrder x₁
-  onward_ready e = subst (λ (ms : List Bytes). Named ms x₁) (sym (named_now e).there) (named_now e)
-
-  -- and what it leaves
+  -- what the next names leave
   pub onward_more : (vs : List Bytes) (r₂ : Bool) (x₂ : Lexicon) (row₂ : List ℕ) → Onward r₁ (names_at x₁) vs r₂ x₂ row₁ row₂
       → Onward r₀ ns (ws ++ vs) r₂ x₂ row row₂
   onward_more vs r₂ x₂ row₂ d =
@@ -134,10 +131,6 @@ module _ (r₀ : Bool) (ns ws : List Bytes) (r₁ : Bool) (x₁ : Lexicon) (row 
             (join_lost ns ws vs x₁ row row₁ (subst (λ (r : Bool). Joining ns ws r x₁ row row₁) o (k.joins e)) x₂ row₂));
       }
 
--- no room before: none after
-pub onward_shut : (before : Bool) (ns ws : List Bytes) (x : Lexicon) (row : List ℕ) → before ≡ false → Onward before ns ws false x row row
-onward_shut before ns ws x row e = record { lost = λ c. refl; joins = λ c. clash c e }
-
 -- One name met.
 module _ (before : Bool) (w : Bytes) (room : Bool) (number : ℕ) (x x' : Lexicon) (k : InOrder x) (met : Meeting w room number x x') where
   -- its number lies within a row of names
@@ -152,7 +145,7 @@ module _ (before : Bool) (w : Bytes) (room : Bool) (number : ℕ) (x x' : Lexico
 
   -- it joins the row
   pub onward_one : before ≡ true → room ≡ true → (old new : List ℕ)
-      → new ≡ put 0 (pack body_words (union (row (part 0 body_words old)) (only number))) old → Onward before (names_at x) (w ∷ []) true x' old new
+      → new ≡ pack (length old) (union (row old) (only number)) → Onward before (names_at x) (w ∷ []) true x' old new
   onward_one b e old new q =
       let ns : List Bytes = names_at x in
       record {
@@ -184,3 +177,40 @@ module _ (before : Bool) (w : Bytes) (room : Bool) (number : ℕ) (x x' : Lexico
               joins = λ r. clash r refl;
             };
       }
+
+-- The same, for a head that is lost where a name finds no room.
+module _ (head : Option ℕ) (w : Bytes) (x x' : Lexicon) (k : is_some head ≡ true → InOrder x) (h : ℕ) (e : head ≡ Some h) (o : Option ℕ)
+    (met : Meeting w (is_some o) (unwrap_or o 0) x x') where
+  before : is_some head ≡ true
+  before = ap is_some e
+
+  -- a number joins the row
+  module _ (number : ℕ) (q : o ≡ Some number) where
+    number_is : unwrap_or o 0 ≡ number
+    number_is = ap (λ (c : Option ℕ). unwrap_or c 0) q
+
+    pub joins_low : number < names
+    joins_low = subst (λ (n : ℕ). n < names) number_is (low (is_some head) w (is_some o) (unwrap_or o 0) x x' (k before) met (ap is_some q))
+
+    pub joins_one : (old new : List ℕ) → new ≡ pack (length old) (union (row old) (only number))
+        → Onward (is_some head) (names_at x) (w ∷ []) true x' old new
+    joins_one old new p =
+        onward_one (is_some head) w (is_some o) (unwrap_or o 0) x x' (k before) met before (ap is_some q) old new
+        (p ∙ ap (λ (c : ℕ). pack (length old) (union (row old) (only c))) (sym number_is))
+
+  -- or there is none
+  pub joins_full : o ≡ None → (y : Lexicon) (row : List ℕ) → Onward (is_some head) (names_at x) (w ∷ []) false y row row
+  joins_full q y row = onward_full (is_some head) w (is_some o) (unwrap_or o 0) x x' (k before) met (ap is_some q) y row
+
+-- A head is lost or stays what it was.
+pub some_self : (o : Option ℕ) → IfSome o (λ h. o ≡ Some h)
+some_self None = tt
+some_self (Some h) = refl
+
+pub some_on : (a b c : Option ℕ) → IfSome b (λ h. a ≡ Some h) → IfSome c (λ h. b ≡ Some h) → IfSome c (λ h. a ≡ Some h)
+some_on a b None p q = tt
+some_on a None (Some h) p q = cc
+some_on a (Some g) (Some h) p q = p ∙ q
+
+-- what proves that a name joins a row
+pub ruleset joined = (joins_low, joins_one, joins_full)

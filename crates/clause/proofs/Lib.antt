@@ -1,6 +1,7 @@
 pub mod Places
 pub mod Forms
 pub mod Sorting
+pub mod Naming
 pub mod Rows
 pub mod Meeting
 pub mod Joining

@@ -14,7 +14,7 @@ use Rattle.clause.specs.Line.{LineEnds, line_at, unblank, unword}
 use Rattle.clause.proofs.Forms.{Walk, walk_start, same_words, same_end, walk_fault, walk_sound, walk_end, walk_all, walk_on}
 use Rattle.clause.specs.Found.{Kept, Lexicon, names_at, InOrder, Onward, Bodied}
 use Rattle.clause.proofs.Rows.{kept_same, kept_on}
-use Rattle.clause.proofs.Joining.{onward_start, onward_ready, onward_more}
+use Rattle.clause.proofs.Joining.{onward_start, onward_more}
 
 -- a map over one more
 map_more : {A B : Type 0} (f : A → B) (xs : List A) (y : A) → map f xs ++ (f y ∷ []) ≡ map f (xs ++ (y ∷ []))
@@ -41,37 +41,35 @@ module _ (fold : ℕ → ℕ) (law : Folding fold) (t : Bytes) (i j : ℕ) (room
       }
 
   module _ (room₁ : Bool) (x₁ : Lexicon) (row row₁ : List ℕ) (p : Passed fold t i j room x room₁ x₁ row row₁) where
-    -- what the next word needs
-    pub passed_ready : room₁ ≡ true → InOrder x₁
-    passed_ready e = onward_ready room (names_at x) (map (map fold) p.words) room₁ x₁ row row₁ p.onward e
-
-    -- one word more
+    -- one word more, the folded name v from place a
     pub passed_more : (next : ℕ) (room₂ : Bool) (x₂ : Lexicon) (row₂ : List ℕ) → starts line_end (drop j t) ≡ false
-        → is_name fold (name_run fold t j) ≡ true → next ≡ unword fold t j
-        → Kept name_area x₁.area x₂.area × Onward room₁ (names_at x₁) (name_folded fold t j ∷ []) room₂ x₂ row₁ row₂
+        → (a : ℕ) → a ≡ j → is_name fold (name_run fold t a) ≡ true → (v : Bytes) → v ≡ name_folded fold t a → next ≡ unword fold t j
+        → Kept name_area x₁.area x₂.area → Onward room₁ (names_at x₁) (v ∷ []) room₂ x₂ row₁ row₂
         → Passed fold t i next room x room₂ x₂ row row₂
-    passed_more next room₂ x₂ row₂ e g q d =
+    passed_more next room₂ x₂ row₂ e a b g v f q kept d =
         record {
           words = p.words ++ (name_run fold t j ∷ []);
-          walk = walk_on fold law t i j p.words p.walk next e g q;
-          kept = kept_on name_area x.area x₁.area x₂.area p.kept d.0;
+          walk = walk_on fold law t i j p.words p.walk next e (subst (λ (n : ℕ). is_name fold (name_run fold t n) ≡ true) b g) q;
+          kept = kept_on name_area x.area x₁.area x₂.area p.kept kept;
           onward =
               subst (λ (ws : List Bytes). Onward room (names_at x) ws room₂ x₂ row row₂) (map_more (map fold) p.words (name_run fold t j))
               (onward_more room (names_at x) (map (map fold) p.words) room₁ x₁ row row₁ p.onward (name_folded fold t j ∷ []) room₂ x₂ row₂
-              d.1);
+              (subst (λ (u : Bytes). Onward room₁ (names_at x₁) (u ∷ []) room₂ x₂ row₁ row₂) (f ∙ ap (name_folded fold t) b) d));
         }
 
     -- at the start there were blanks, from place b
     module _ (b : ℕ) (k : LineEnds t b) (s : i ≡ unblank t b) where
-      -- a word that is no name
-      pub passed_fault : (number at : ℕ) → starts line_end (drop j t) ≡ false → is_name fold (name_run fold t j) ≡ false
-          → number ≡ word_fault fold (line_at t j) → Bodied fold t b room x number at room₁ x₁ row row₁
-      passed_fault number at e g q =
+      -- a word that is no name, from place a
+      pub passed_fault : (number at : ℕ) (room₂ : Bool) → starts line_end (drop j t) ≡ false → (a : ℕ) → a ≡ j
+          → is_name fold (name_run fold t a) ≡ false → number ≡ word_fault fold (line_at t a) → Bodied fold t b room x number at room₂ x₁ row row₁
+      passed_fault number at room₂ e a c g q =
+          let none : is_name fold (name_run fold t j) ≡ false = subst (λ (n : ℕ). is_name fold (name_run fold t n) ≡ false) c g in
+          let fault : number ≡ word_fault fold (line_at t j) = q ∙ ap (λ (n : ℕ). word_fault fold (line_at t n)) c in
           record {
-            judged = q ∙ walk_fault fold law t i j p.words p.walk e g ∙ ap (words_fault fold) (same_words fold law t b i k s);
-            ends = λ o. absurd (word_some fold (line_at t j) (sym q ∙ o));
+            judged = fault ∙ walk_fault fold law t i j p.words p.walk e none ∙ ap (words_fault fold) (same_words fold law t b i k s);
+            ends = λ o. absurd (word_some fold (line_at t j) (sym fault ∙ o));
             kept = p.kept;
-            joins = λ o. absurd (word_some fold (line_at t j) (sym q ∙ o));
+            joins = λ o. absurd (word_some fold (line_at t j) (sym fault ∙ o));
           }
 
       -- the line's end

@@ -7,10 +7,8 @@ use Prim.Native.Nat.{ℕ}
 use lib.ListN.{length, replicate}
 use Rattle.limits.specs.Book.{body_words}
 use Rattle.sets.specs.Set.{Set, empty_set, only, union}
-use Rattle.areas.specs.Area.{part, put}
 use Rattle.words.specs.Row.{row, pack}
 use Rattle.words.proofs.Rows.{length_pack, row_pack, pack_same, pack_empty}
-use Rattle.areas.proofs.Parts.{part_whole, put_whole}
 use Rattle.clause.specs.Found.{Kept}
 
 -- nothing changed
@@ -31,10 +29,9 @@ row_same xs f g e q = q ∙ pack_same body_words f g (λ i l. e i)
 
 -- one member more
 pub row_more : (xs ys : List ℕ) (f : Set) (a : ℕ) → xs ≡ pack body_words f
-    → ys ≡ put 0 (pack body_words (union (row (part 0 body_words xs)) (only a))) xs → ys ≡ pack body_words (union f (only a))
+    → ys ≡ pack (length xs) (union (row xs) (only a)) → ys ≡ pack body_words (union f (only a))
 row_more xs ys f a e q =
     let n : length xs ≡ body_words = ap length e ∙ length_pack body_words f in
-    let g : Set = union (row (part 0 body_words xs)) (only a) in
-    q ∙ put_whole (pack body_words g) xs (n ∙ sym (length_pack body_words g))
-    ∙ pack_same body_words g (union f (only a))
-    (λ i l. ap (λ (b : Bool). b || only a i) (ap (λ (zs : List ℕ). row zs i) (part_whole body_words xs n ∙ e) ∙ row_pack body_words f i l))
+    let g : Set = union (row xs) (only a) in
+    q ∙ ap (λ (k : ℕ). pack k g) n
+    ∙ pack_same body_words g (union f (only a)) (λ i l. ap (λ (b : Bool). b || only a i) (ap (λ (zs : List ℕ). row zs i) e ∙ row_pack body_words f i l))

@@ -8,7 +8,10 @@ use native.Mathlib.Omega.{arith}
 use lib.Dec.{leb}
 use lib.ListN.{length, drop}
 use borrow.Author.Tests.{leb-false, lt-leb}
+use Rattle.std.specs.Prelude.{Option, Some, None, Result, Ok, Err, is_some, IfSome, IfOk}
+use Rattle.std.specs.Option.{unwrap_or}
 use Rattle.limits.specs.Book.{names, body_words, name_area}
+use Rattle.limits.specs.declared.Refusal.{Refusal}
 use Rattle.sets.specs.Set.{empty_set}
 use Rattle.sets.proofs.Logic.{either, clash}
 use Rattle.words.specs.Row.{pack}
@@ -21,7 +24,9 @@ use Rattle.tables.specs.Numbering.{place, meet, meet_all, places}
 use Rattle.tables.proofs.Numbering.{meet_met, meets_le, meets_keep}
 use Rattle.clause.specs.Line.{LineEnds, form_from, unword, words_at, words_folded}
 use Rattle.clause.proofs.Forms.{fault_number, end_body, judged, says}
-use Rattle.clause.specs.Found.{Lexicon, names_at, Named, InOrder, Meeting, Joining, Onward, Bodied, Ruled, Said}
+use Rattle.clause.specs.declared.Found.{Found}
+use Rattle.clause.specs.Held.{room_in, head_in}
+use Rattle.clause.specs.Found.{Lexicon, names_at, Named, Meeting, Joining, Onward, Bodied, Ruled, Said}
 use Rattle.clause.proofs.Rows.{kept_same, kept_on, row_same}
 
 -- no rule
@@ -42,11 +47,7 @@ meets_cons ns w ws = refl
 
 -- a head is met
 module _ (w : Bytes) (r₁ : Bool) (head : ℕ) (x x₁ : Lexicon) (met : Meeting w r₁ head x x₁) where
-  -- what the body needs
-  pub met_ready : r₁ ≡ true → InOrder x₁
-  met_ready e = subst (λ (ms : List Bytes). Named ms x₁) (sym (met.named e).there) (met.named e)
-
-  -- and what it leaves, in a row that was clear
+  -- what the body leaves, in a row that was clear
   module _ (ws : List Bytes) (r₂ : Bool) (x₂ : Lexicon) (row₁ row₂ : List ℕ) (clear : row₁ ≡ pack body_words empty_set)
       (o : Onward r₁ (names_at x₁) ws r₂ x₂ row₁ row₂) where
     abbrev c : Clause
@@ -104,3 +105,25 @@ module _ (fold : ℕ → ℕ) (law : Folding fold) (t : Bytes) (i mid : ℕ) (k 
             (ruled (name_folded fold t i) r₁ head x x₁ met (words_folded fold t (mid + 1)) r₂ x₂ row₁ row₂ clear
             (b.joins (b.judged ∙ all_sound fold (words_at t (mid + 1)) d.0)));
       }
+
+-- the head matters only where there is room
+pub said_head : (fold : ℕ → ℕ) (t : Bytes) (i : ℕ) (x : Lexicon) (number at : ℕ) (room : Bool) (head head' : ℕ) (x' : Lexicon) (row : List ℕ)
+    → (room ≡ true → head' ≡ head) → Said fold t i x number at room head x' row → Said fold t i x number at room head' x' row
+said_head fold t i x number at room head head' x' row e s =
+    record {
+      judged = s.judged;
+      ends = s.ends;
+      kept = s.kept;
+      says =
+          λ c p. let r = s.says c p in record { fits = r.fits; named = r.named; head_is = λ o. e o ∙ r.head_is o; body_is = r.body_is };
+    }
+
+-- a head that is not lost is the one that was met
+pub head_met : (a o : Option ℕ) → IfSome a (λ h. o ≡ Some h) → is_some a ≡ true → unwrap_or a 0 ≡ unwrap_or o 0
+head_met None o h e = cc
+head_met (Some g) o h e = sym (ap (λ (c : Option ℕ). unwrap_or c 0) h)
+
+pub head_found : (r : Result Found Refusal) (o : Option ℕ) (l : ℕ) → IfOk r (λ f. (f.end.line ≡ l) × IfSome f.head (λ h. o ≡ Some h))
+    → room_in r ≡ true → head_in r ≡ unwrap_or o 0
+head_found (Ok f) o l h e = head_met f.head o h.1 e
+head_found (Err cause) o l h e = cc

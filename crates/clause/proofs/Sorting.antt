@@ -1,6 +1,6 @@
 -- The number of a fault by the byte at a place of the text, and by the run of name bytes there.
 -- Assumes nothing.
-use mathlib.Core.Path.{◌≡◌, sym, ap, ◌∙◌}
+use mathlib.Core.Path.{◌≡◌, refl, sym, ap, ◌∙◌}
 use mathlib.Core.Bool.{true, false}
 use mathlib.Core.List.{[], ◌∷◌}
 use Prim.Native.Nat.{ℕ, suc, ◌-◌, ◌≤◌, ◌<◌}
@@ -8,15 +8,16 @@ use native.Mathlib.Omega.{arith}
 use lib.Dec.{eqb}
 use lib.ListN.{length, get_or, drop}
 use lib.Seq.{drop-cons}
-use borrow.Author.Tests.{lt-ltb}
+use borrow.Author.Tests.{lt-ltb, eq-eqb, ne_eqb}
 use Rattle.limits.specs.Book.{name_bytes}
 use Rattle.sets.proofs.Logic.{either, or_left, or_right}
-use Rattle.grammar.specs.Bytes.{Bytes, Folding, space, colon, blank, not_end, name_byte}
+use Rattle.grammar.specs.Bytes.{Bytes, Folding, space, colon, line_end, blank, not_end, name_byte}
 use Rattle.grammar.specs.Lines.{span, run, barred, byte_fault, word_fault}
 use Rattle.grammar.proofs.Spans.{run_yes, run_no, run_size}
 use Rattle.grammar.proofs.Words.{name_end}
 use Rattle.grammar.proofs.Sorts.{blank_free, byte_nil, byte_barred, byte_free, word_long, word_byte}
 use Rattle.scan.specs.Places.{past_at}
+use Rattle.scan.proofs.Steps.{at_end, in_line, no_name, of_name}
 use Rattle.clause.specs.Line.{LineEnds, line_at}
 use Rattle.clause.proofs.Places.{line_past, run_line, in_text}
 
@@ -66,6 +67,34 @@ module _ (fold : ℕ → ℕ) (b : ℕ) where
     pub barred_fault : not_end b ≡ true → barred fold b ≡ true → 14 ≡ byte_fault fold (line_at t i)
     barred_fault n f = sym (ap (byte_fault fold) (line_byte n) ∙ byte_barred fold b (line_at t (suc i)) f)
 
+-- by the byte there
+module _ (fold : ℕ → ℕ) (t : Bytes) (i : ℕ) (l : i < length t) where
+  pub fault_end : get_or t i 0 ≡ line_end → 5 ≡ byte_fault fold (line_at t i)
+  fault_end e = end_fault fold (get_or t i 0) t i l refl (at_end _ e)
+
+  pub fault_colon : get_or t i 0 ≡ colon → 5 ≡ byte_fault fold (line_at t i)
+  fault_colon e = free_fault fold (get_or t i 0) t i l refl (colon_free fold (get_or t i 0) (eq-eqb (get_or t i 0) colon e))
+
+  pub fault_space : get_or t i 0 ≡ space → 5 ≡ byte_fault fold (line_at t i)
+  fault_space e = free_fault fold (get_or t i 0) t i l refl (space_free fold (get_or t i 0) (eq-eqb (get_or t i 0) space e))
+
+  pub fault_tab : get_or t i 0 ≡ 9 → 5 ≡ byte_fault fold (line_at t i)
+  fault_tab e = free_fault fold (get_or t i 0) t i l refl (tab_free fold (get_or t i 0) (eq-eqb (get_or t i 0) 9 e))
+
+  -- by what it folds to
+  module _ (x : ℕ) (q : x ≡ fold (get_or t i 0)) where
+    pub fault_name : (x ≡ 0 → ⊥) → 5 ≡ byte_fault fold (line_at t i)
+    fault_name n = free_fault fold (get_or t i 0) t i l refl (name_free fold (get_or t i 0) (of_name fold (get_or t i 0) x q n))
+
+    pub fault_other : x ≡ 0 → (get_or t i 0 ≡ line_end → ⊥) → (get_or t i 0 ≡ colon → ⊥) → (get_or t i 0 ≡ space → ⊥) → (get_or t i 0 ≡ 9 → ⊥)
+        → 14 ≡ byte_fault fold (line_at t i)
+    fault_other n e c s b =
+        barred_fault fold (get_or t i 0) t i l refl (in_line _ e)
+        (other_barred fold (get_or t i 0) (no_name fold (get_or t i 0) x q n) (ne_eqb _ colon c) (ne_eqb _ space s) (ne_eqb _ 9 b))
+
+-- what proves the fault at a byte
+pub ruleset bytes = (fault_end, fault_colon, fault_space, fault_tab, fault_name, fault_other)
+
 -- the run of name bytes at a place in a line
 module _ (fold : ℕ → ℕ) (law : Folding fold) (t : Bytes) (i end : ℕ) (k : LineEnds t i) (e : end ≡ past_at (name_byte fold) t i) where
   run_is : end - i ≡ span (name_byte fold) (line_at t i)
@@ -87,3 +116,6 @@ module _ (fold : ℕ → ℕ) (law : Folding fold) (t : Bytes) (i end : ℕ) (k 
   -- which is in the text
   pub behind_run : end < length t
   behind_run = omega (arith, e, in_text t i k (name_byte fold) (name_end fold law))
+
+-- what proves the fault at a run
+pub ruleset runs = (long_fault, short_fault, behind_run)

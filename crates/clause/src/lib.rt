@@ -1,361 +1,198 @@
 // The rule that a line says, found in one pass over its bytes and handed back as a value.
 #![tactic(auto)]
 
-ghost use Rattle.std.specs.Prelude.{◌≡◌, true, false, [], ◌∷◌, ℕ, ◌<◌, length, drop, replicate};
+ghost use Rattle.std.specs.Prelude.{◌≡◌, true, false, [], ◌∷◌, ◌<◌, length, drop, replicate, is_some, IfOk, IfSome};
+ghost use Rattle.std.specs.Option.{unwrap_or};
 ghost use Rattle.limits.specs.Book.{body_words, name_area};
-ghost use Rattle.grammar.specs.Bytes.{line_end, Bytes, name_byte, letters};
+ghost use Rattle.limits.specs.Refusal.{number_of, number_in};
+ghost use Rattle.grammar.specs.Bytes.{line_end, Folding, letters};
 ghost use Rattle.grammar.specs.Lines.{starts, is_name, byte_fault, word_fault};
-ghost use Rattle.grammar.specs.Letters.{FoldTable};
-ghost use Rattle.scan.specs.Places.{past_at, name_run, name_folded};
+ghost use Rattle.scan.specs.Places.{name_run, name_folded};
+ghost use Rattle.tables.specs.Numbering.{place};
+ghost use Rattle.lexicon.specs.Index.{Storable};
 ghost use Rattle.clause.specs.Line.{LineEnds, line_at};
-ghost use Rattle.clause.specs.Found.{NameHere, Kept, lexicon_of, names_at, InOrder, Meeting, Onward, Bodied, Said};
+ghost use Rattle.clause.specs.Found.{Kept, names_at, InOrder, Meeting, Onward, Bodied, Said};
+ghost use Rattle.clause.specs.Held.{held, Run, at_in, room_in, head_in};
 
-use lexicon::{add, find};
+use lexicon::Lexicon;
+use lexicon::name::Name;
 use limits::{Book, Refusal};
-use rows::write::insert;
+use rows::row::insert;
 use scan::cursor::{Cursor, Word};
-use scan::table::fold;
+use scan::letters::Letters;
 
-// Whether the run of name bytes from place `at` is a name: 1 to 32 bytes of any text that has it there, under any letters.
-fn is_name(at: usize, word: Word) -> bool
-    ensures { (fold : ℕ → ℕ) (t : Bytes) → word.end ≡ past_at (name_byte fold) t at → result ≡ is_name fold (name_run fold t at) }
+// The text and its letters stay two parameters: the cursor takes the text alone at most of its steps, so a struct of both would be taken apart
+// at each.
+
+// The name that a word is, where it is one: 1 to 32 bytes.
+#[tactic(auto, using(crate::proofs::Naming::named))]
+fn name<'a>(text: &'a [u8], folding: &'a Letters<'a>, word: Word) -> Option<Name<'a>>
+    requires { Run (letters folding.now) text.now word }
+    ensures name { IfSome result (λ n. (n ≡ name_folded (letters folding.now) text.now word.at)
+        × (is_name (letters folding.now) (name_run (letters folding.now) text.now word.at) ≡ true)) }
+    ensures none { result ≡ None → is_name (letters folding.now) (name_run (letters folding.now) text.now word.at) ≡ false }
+    ensures law { Folding (letters folding.now) }
 {
-    let end = word.end;
-    if end <= at {
-        return false;
+    folding.passes();
+    let some = word.at < word.end;
+    if some && word.end - word.at <= Book::NAME_BYTES {
+        return Some(Name::new(&text[word.at..word.end], folding, word.bucket));
     }
-    end - at <= Book::NAME_BYTES
+    None
 }
 
-// The number of a fault at place `at` where no run is overlong: 14 for a barred byte, 5 for the line's end and any other.
-fn byte_fault(text: &[u8], table: &[u8], at: usize) -> usize
-    requires { (at < length text.now) × FoldTable table.now }
-    ensures { result ≡ byte_fault (letters table.now) (line_at text.now at) }
+// The fault at place `at` where no run is overlong: a barred byte, else the line.
+#[tactic(auto, using(crate::proofs::Sorting::bytes))]
+fn byte_fault(text: &[u8], folding: &Letters<'_>, at: usize) -> Refusal
+    requires { at < length text.now }
+    ensures { number_of result ≡ byte_fault (letters folding.now) (line_at text.now at) }
 {
-    let b = text[at];
-    if b == Cursor::LINE_END || b == Cursor::COLON || b == Cursor::SPACE || b == Cursor::TAB {
-        return Refusal::LINE;
+    match text[at] {
+        Cursor::LINE_END | Cursor::COLON | Cursor::SPACE | Cursor::TAB => Refusal::Line,
+        b if folding.fold(b) != 0 => Refusal::Line,
+        _ => Refusal::BarredByte,
     }
-    if fold(table, b) != 0 {
-        return Refusal::LINE;
-    }
-    Refusal::BARRED_BYTE
 }
 
-// The number of the fault where the run of name bytes from place `at` is no name: 13 for an overlong run, else by the byte behind it.
-fn word_fault(text: &[u8], table: &[u8], at: usize, word: Word) -> usize
-    requires line_ends { LineEnds text.now at × FoldTable table.now }
-    requires end_value { word.end ≡ past_at (name_byte (letters table.now)) text.now at }
-    ensures { result ≡ word_fault (letters table.now) (line_at text.now at) }
+// The fault where a word is no name: an overlong run, else by the byte behind it.
+fn word_fault(text: &[u8], folding: &Letters<'_>, word: Word) -> Refusal
+    requires line_ends { LineEnds text.now word.at }
+    requires law { Folding (letters folding.now) }
+    requires run { Run (letters folding.now) text.now word }
+    ensures { number_of result ≡ word_fault (letters folding.now) (line_at text.now word.at) }
 {
-    let end = word.end;
-    if end - at > Book::NAME_BYTES {
-        return Refusal::LONG_NAME;
+    let long = word.end - word.at > Book::NAME_BYTES;
+    if long {
+        return Refusal::LongName;
     }
-    byte_fault(text, table, end)
+    byte_fault(text, folding, word.end)
 }
 
-// A name's number where there is room for it, and how many names there are then.
-#[derive(Clone, Copy)]
-struct Met {
-    pub room: bool,
-    pub number: usize,
-    pub names: usize,
-}
-
-// The name from place `at` is met after the first `count` names: it joins them where it is new and there is room.
-fn meet(
-    text: &[u8],
-    table: &[u8],
-    at: usize,
-    word: Word,
-    spellings: &mut [u8],
-    first: &mut [u16],
-    prior: &mut [u16],
-    count: usize,
-) -> Met
-    requires name_here { NameHere (letters table.now) text.now at word.end word.bucket × FoldTable table.now }
-    requires in_order { InOrder (lexicon_of count spellings.old first.old prior.old) }
-    ensures { Meeting
-        (name_folded (letters table.now) text.now at) result.room result.number
-        (lexicon_of count spellings.old first.old prior.old)
-        (lexicon_of result.names spellings.new first.new prior.new) }
+// A name that is none of those before it: it joins them, where there is room. Its number. It stays behind a call: with its code in the walk
+// over a body, the place in the text lies in memory there.
+#[inline(never)]
+fn enter(lexicon: &mut Lexicon<'_>, name: &Name<'_>) -> Option<usize>
+    requires in_order { InOrder (held lexicon.old) }
+    requires new { (place (names_at (held lexicon.old)) name.now ≡ lexicon.old.count) × Storable name.now }
+    ensures same { lexicon.new.spellings.ghost_name ≡ lexicon.old.spellings.ghost_name }
+    ensures met { Meeting name.now (is_some result) (unwrap_or result 0) (held lexicon.old) (held lexicon.new) }
 {
-    let len = word.end - at;
-    let number = find(
-        spellings,
-        count,
-        first,
-        prior,
-        text,
-        table,
-        at,
-        len,
-        word.bucket,
-    );
-    if number < count {
-        return Met {
-            room: true,
-            number,
-            names: count,
-        };
-    }
-    let full = count == Book::NAMES;
+    let number = lexicon.count;
+    let full = number == Book::NAMES;
     if full {
-        return Met {
-            room: false,
-            number,
-            names: count,
-        };
+        return None;
     }
-    add(
-        spellings,
-        count,
-        first,
-        prior,
-        text,
-        table,
-        at,
-        len,
-        word.bucket,
-    );
-    Met {
-        room: true,
-        number: count,
-        names: count + 1,
-    }
+    lexicon.add(name);
+    Some(number)
 }
 
-// The same for a head: one that is known is found here, and only a new one goes behind the call.
-fn meet_head(
-    text: &[u8],
-    table: &[u8],
-    at: usize,
-    word: Word,
-    spellings: &mut [u8],
-    first: &mut [u16],
-    prior: &mut [u16],
-    n: usize,
-) -> Met
-    requires name_here { NameHere (letters table.now) text.now at word.end word.bucket × FoldTable table.now }
-    requires in_order { InOrder (lexicon_of n spellings.old first.old prior.old) }
-    ensures { Meeting
-        (name_folded (letters table.now) text.now at) result.room result.number
-        (lexicon_of n spellings.old first.old prior.old)
-        (lexicon_of result.names spellings.new first.new prior.new) }
+// A name is met: its number, where it is known or there is room for it. Most names of a body are known, so the search stands where the body is
+// walked.
+#[inline(always)]
+fn meet(lexicon: &mut Lexicon<'_>, name: &Name<'_>) -> Option<usize>
+    requires in_order { InOrder (held lexicon.old) }
+    ensures same { lexicon.new.spellings.ghost_name ≡ lexicon.old.spellings.ghost_name }
+    ensures met { Meeting name.now (is_some result) (unwrap_or result 0) (held lexicon.old) (held lexicon.new) }
 {
-    let len = word.end - at;
-    let known = find(
-        spellings,
-        n,
-        first,
-        prior,
-        text,
-        table,
-        at,
-        len,
-        word.bucket,
-    );
-    if known < n {
-        return Met {
-            room: true,
-            number: known,
-            names: n,
-        };
+    match lexicon.find(name) {
+        Some(known) => Some(known),
+        None => enter(lexicon, name),
     }
-    meet(text, table, at, word, spellings, first, prior, n)
 }
 
-// How many names there are, and whether each found room.
-#[derive(Clone, Copy)]
-struct Joined {
-    pub room: bool,
-    pub names: usize,
-}
-
-// The name from place `at` joins the row of a body, while there is room.
+// A name joins the row of a body. The head of the rule, which is lost as soon as a name finds no room.
 fn join(
-    text: &[u8],
-    table: &[u8],
-    at: usize,
-    word: Word,
-    spellings: &mut [u8],
-    first: &mut [u16],
-    prior: &mut [u16],
+    lexicon: &mut Lexicon<'_>,
+    name: &Name<'_>,
     row: &mut [u64],
-    n: usize,
-    room: bool,
-) -> Joined
-    requires name_here { NameHere (letters table.now) text.now at word.end word.bucket × FoldTable table.now × (length row.old ≡ body_words) }
-    requires in_order { room ≡ true → InOrder (lexicon_of n spellings.old first.old prior.old) }
-    ensures kept { Kept name_area spellings.old spellings.new }
-    ensures joins { Onward room
-        (names_at (lexicon_of n spellings.old first.old prior.old))
-        (name_folded (letters table.now) text.now at ∷ []) result.room
-        (lexicon_of result.names spellings.new first.new prior.new)
+    head: Option<usize>,
+) -> Option<usize>
+    requires in_order { is_some head ≡ true → InOrder (held lexicon.old) }
+    requires row_len { length row.old ≡ body_words }
+    ensures same { lexicon.new.spellings.ghost_name ≡ lexicon.old.spellings.ghost_name }
+    ensures head { IfSome result (λ h. head ≡ Some h) }
+    ensures kept { Kept name_area lexicon.old.spellings.now lexicon.new.spellings.now }
+    ensures joins { Onward (is_some head)
+        (names_at (held lexicon.old)) (name.now ∷ []) (is_some result) (held lexicon.new)
         row.old row.new }
 {
-    if !room {
-        return Joined {
-            room: false,
-            names: n,
-        };
-    }
-    // Most names of a body are known, and the search is the reader's hot path: it stands here, so that it is inlined where the body is walked.
-    // A name that is new is searched for once more behind a call: that keeps the code of entering it out of the walk.
-    let len = word.end - at;
-    let known = find(
-        spellings,
-        n,
-        first,
-        prior,
-        text,
-        table,
-        at,
-        len,
-        word.bucket,
-    );
-    if known < n {
-        insert(row, 0, Book::BODY_WORDS, known);
-        return Joined {
-            room: true,
-            names: n,
-        };
-    }
-    let met = meet(text, table, at, word, spellings, first, prior, n);
-    if !met.room {
-        return Joined {
-            room: false,
-            names: n,
-        };
-    }
-    insert(row, 0, Book::BODY_WORDS, met.number);
-    Joined {
-        room: true,
-        names: met.names,
-    }
+    let head = head?;
+    let number = meet(lexicon, name)?;
+    insert(row, number);
+    Some(head)
 }
 
-// What is found in a line: the number of its fault, 0 for none, and the cursor moved on; the head's number, and how many names there are,
-// where there was room for them.
+// A rule that is found in a line: the cursor at the line's end, and the number of its head, where its names found room.
 #[derive(Clone, Copy)]
 pub struct Found {
-    pub fault: usize,
-    pub cursor: Cursor,
-    pub head: usize,
-    pub names: usize,
-    pub room: bool,
+    pub end: Cursor,
+    pub head: Option<usize>,
 }
 
-// The body from the cursor to the line's end, behind a head of that number: at fault where a word is no name. While there is room its names
-// join the row.
-fn body(
-    text: &[u8],
-    table: &[u8],
+// The body from the cursor to the line's end, behind a head: at fault where a word is no name. While there is room its names join the row.
+fn body<'a>(
+    text: &'a [u8],
+    folding: &'a Letters<'a>,
     cursor: Cursor,
-    spellings: &mut [u8],
-    first: &mut [u16],
-    prior: &mut [u16],
+    lexicon: &mut Lexicon<'_>,
     row: &mut [u64],
-    head: usize,
-    n: usize,
-    room: bool,
-) -> Found
-    requires line_ends { LineEnds text.now cursor.at × FoldTable table.now × (length row.old ≡ body_words) }
-    requires in_order { room ≡ true → InOrder (lexicon_of n spellings.old first.old prior.old) }
-    ensures head { (result.head ≡ head) × (result.cursor.line ≡ cursor.line) }
-    ensures body { Bodied (letters table.now) text.now cursor.at room
-        (lexicon_of n spellings.old first.old prior.old)
-        result.fault result.cursor.at result.room
-        (lexicon_of result.names spellings.new first.new prior.new)
+    head: Option<usize>,
+) -> Result<Found, Refusal>
+    requires line_ends { LineEnds text.now cursor.at }
+    requires law { Folding (letters folding.now) }
+    requires row_len { length row.old ≡ body_words }
+    requires in_order { is_some head ≡ true → InOrder (held lexicon.old) }
+    ensures same { lexicon.new.spellings.ghost_name ≡ lexicon.old.spellings.ghost_name }
+    ensures head { IfOk result (λ f. (f.end.line ≡ cursor.line) × IfSome f.head (λ h. head ≡ Some h)) }
+    ensures body { Bodied (letters folding.now) text.now cursor.at (is_some head) (held lexicon.old)
+        (number_in result) (at_in result) (room_in result) (held lexicon.new)
         row.old row.new }
 {
-    let mut done = Joined { room, names: n };
+    let mut head = head;
     let mut here = cursor.past_blanks(text);
     while !here.sees(text, Cursor::LINE_END) {
-        let at = here.at;
-        let word = here.word(text, table);
-        if !is_name(at, word) {
-            let fault = word_fault(text, table, at, word);
-            return Found {
-                fault,
-                cursor: here,
-                head,
-                names: done.names,
-                room: done.room,
-            };
+        let word = here.word(text, folding);
+        match name(text, folding, word) {
+            Some(name) => head = join(lexicon, &name, row, head),
+            None => return Err(word_fault(text, folding, word)),
         }
-        done = join(
-            text, table, at, word, spellings, first, prior, row, done.names, done.room,
-        );
         here = here.moved(word.end).past_blanks(text);
     }
-    Found {
-        fault: 0,
-        cursor: here,
-        head,
-        names: done.names,
-        room: done.room,
-    }
-}
-
-// A line at fault under that number, found at the cursor.
-fn at_fault(fault: usize, cursor: Cursor, n: usize) -> Found
-    ensures { result ≡ record { fault = fault; cursor = cursor; head = 0; names = n; room = false } }
-{
-    Found {
-        fault,
-        cursor,
-        head: 0,
-        names: n,
-        room: false,
-    }
+    Ok(Found { end: here, head })
 }
 
 // The rule from its head at the cursor to the line's end, its body in the row, which is lent clear. What is found does not depend on how
 // many rules there are.
-pub fn rule(
-    text: &[u8],
-    table: &[u8],
+pub fn rule<'a>(
+    text: &'a [u8],
+    folding: &'a Letters<'a>,
     cursor: Cursor,
-    spellings: &mut [u8],
-    first: &mut [u16],
-    prior: &mut [u16],
+    lexicon: &mut Lexicon<'_>,
     row: &mut [u64],
-    n: usize,
-) -> Found
+) -> Result<Found, Refusal>
     requires line_ends { LineEnds text.now cursor.at × (starts line_end (drop cursor.at text.now) ≡ false) }
-    requires fold_table { FoldTable table.now × (row.old ≡ replicate body_words 0) }
-    requires in_order { InOrder (lexicon_of n spellings.old first.old prior.old) }
-    ensures line { result.cursor.line ≡ cursor.line }
-    ensures said { Said (letters table.now) text.now cursor.at
-        (lexicon_of n spellings.old first.old prior.old)
-        result.fault result.cursor.at result.room result.head
-        (lexicon_of result.names spellings.new first.new prior.new)
+    requires clear { row.old ≡ replicate body_words 0 }
+    requires in_order { InOrder (held lexicon.old) }
+    ensures same { lexicon.new.spellings.ghost_name ≡ lexicon.old.spellings.ghost_name }
+    ensures line { IfOk result (λ f. f.end.line ≡ cursor.line) }
+    ensures said { Said (letters folding.now) text.now cursor.at (held lexicon.old)
+        (number_in result) (at_in result) (room_in result) (head_in result) (held lexicon.new)
         row.new }
 {
-    let at = cursor.at;
-    let word = cursor.word(text, table);
-    if !is_name(at, word) {
-        let fault = word_fault(text, table, at, word);
-        return at_fault(fault, cursor, n);
+    let word = cursor.word(text, folding);
+    match name(text, folding, word) {
+        None => {
+            let fault = word_fault(text, folding, word);
+            Err(fault)
+        }
+        Some(name) => {
+            let colon = cursor.moved(word.end).past_blanks(text);
+            if !colon.sees(text, Cursor::COLON) {
+                let fault = byte_fault(text, folding, colon.at);
+                return Err(fault);
+            }
+            let head = meet(lexicon, &name);
+            body(text, folding, colon.moved(colon.at + 1), lexicon, row, head)
+        }
     }
-    let colon = cursor.moved(word.end).past_blanks(text);
-    if !colon.sees(text, Cursor::COLON) {
-        let fault = byte_fault(text, table, colon.at);
-        return at_fault(fault, colon, n);
-    }
-    let met = meet_head(text, table, at, word, spellings, first, prior, n);
-    body(
-        text,
-        table,
-        colon.moved(colon.at + 1),
-        spellings,
-        first,
-        prior,
-        row,
-        met.number,
-        met.names,
-        met.room,
-    )
 }

@@ -3,15 +3,14 @@
 use mathlib.Core.Path.{◌≡◌, refl, sym, ap, ap₂, ◌∙◌}
 use mathlib.Core.List.{[], ◌∷◌, ◌++◌, append_assoc, append-nil}
 use Prim.Native.Nat.{ℕ, ◌+◌, ◌≤◌, ◌<◌}
-use native.Mathlib.Nat.{add-zero, zero-add}
+use native.Mathlib.Nat.{add-zero}
 use native.Mathlib.Numerals.{add-one}
 use native.Mathlib.Omega.{arith}
-use lib.ListN.{length, get_or, take, drop, set, length-append, take-append-drop}
+use lib.ListN.{length, take, drop, set, length-append, take-append-drop}
 use lib.Seq.{set_split, length-take-le}
-use Rattle.areas.specs.Area.{part, put, begun}
-use Rattle.areas.proofs.Parts.{part_whole, length_put}
+use Rattle.areas.specs.Area.{put, begun}
+use Rattle.areas.proofs.Parts.{length_put}
 use Rattle.areas.proofs.Begun.{put_begun}
-use Rattle.rows.proofs.Writing.{copy_none, copy_on, copy_all}
 use Rattle.grammar.specs.Bytes.{Bytes}
 
 -- of the whole text, put from place `at` of old on, `rest` is left to put from place i of text on
@@ -90,20 +89,3 @@ module _ (old : Bytes) (at : ℕ) (whole : Bytes) (fits : at + length whole ≤ 
     -- and the place is past the whole
     pub left_end : rest ≡ [] → i ≡ at + length whole
     left_end e = omega (arith, s.place, length-append s.done rest, ap length s.all, ap length e)
-
--- all of src, put one by one
-module _ (src old : Bytes) (at : ℕ) (fits : at + length src ≤ length old) where
-  -- before the first
-  pub copy_start : old ≡ put at (part 0 0 src) old
-  copy_start = copy_none at 0 old src
-
-  -- one more
-  pub copy_more : (area : Bytes) (i : ℕ) → area ≡ put at (part 0 i src) old → i < length src
-      → set area (at + i) (get_or src i 0) ≡ put at (part 0 (i + 1) src) old
-  copy_more area i e l =
-      ap (λ (j : ℕ). set area (at + i) (get_or src j 0)) (sym (zero-add i)) ∙ copy_on at 0 old src area i e (omega arith) (omega arith)
-
-  -- past the last all are put
-  pub copy_done : (area : Bytes) (i : ℕ) → area ≡ put at (part 0 i src) old → i ≤ length src → length src ≤ i → area ≡ put at src old
-  copy_done area i e l m =
-      copy_all at 0 old src area i (length src) e l m ∙ ap (λ (w : Bytes). put at w old) (part_whole (length src) src refl)

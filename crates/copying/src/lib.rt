@@ -10,10 +10,7 @@ pub fn copy(src: &[u8], area: &mut [u8], at: usize) -> usize
     ensures next { result ≡ at + length src.now }
     ensures area { area.new ≡ put at src.now area.old }
 {
-    let mut i = 0;
-    while i < src.len() {
-        area[at + i] = src[i];
-        i += 1;
-    }
-    at + i
+    let end = at + src.len();
+    area[at..end].copy_from_slice(src);
+    end
 }

@@ -14,6 +14,11 @@ pub extern "C" fn dpb_list(text: &[u8], folds: u64, listing: &mut [u8]) -> u64
     ensures { record { returned = result; listing = listing.new }
         ≡ host_call our_table text.now folds listing.old }
 {
-    let r = hosted::list(text, folds as usize, listing);
-    r.number as u64 * REFUSAL_UNIT + r.line as u64
+    match hosted::list(text, folds as usize, listing) {
+        Ok(_) => 0,
+        Err(refused) => {
+            let number = refused.cause.number() as u64;
+            number * REFUSAL_UNIT + refused.line as u64
+        }
+    }
 }

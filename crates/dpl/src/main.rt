@@ -20,11 +20,9 @@ fn print<R: Print + Eprint>(rt: &R, text: &[u8]) {
 
 fn main(rt: HostRuntime) {
     let mut text = [0u8; ROOM];
-    let input = input::read(&mut rt.stdin(), &mut text);
-    if !input.whole {
+    let Ok(n) = input::read(&mut rt.stdin(), &mut text) else {
         let _ = eprintln!(rt; "dpl: standard input cannot be read");
         return;
-    }
-    let n = input.bytes;
+    };
     print(&rt, &text[..n]);
 }

@@ -1,23 +1,31 @@
--- A listing with its end: what is printed.
+-- A listing with its end, or the line of a refusal: what is printed.
 -- Assumes nothing.
 use mathlib.Core.Path.{◌≡◌, sym, ap, ap₂, ◌∙◌}
 use mathlib.Core.Logic.{⊎_elim}
-use mathlib.Core.List.{List}
-use Prim.Native.Nat.{ℕ}
+use mathlib.Core.List.{List, [], ◌∷◌, ◌++◌}
+use Prim.Native.Nat.{ℕ, ◌+◌, ◌≤◌}
 use native.Mathlib.Omega.{arith}
-use lib.ListN.{length}
+use lib.ListN.{length, length-append}
 use borrow.Author.Tests.{eq-eqb}
 use Rattle.limits.specs.Book.{folds, listing_bytes}
 use Rattle.sets.proofs.Logic.{pick_true}
-use Rattle.grammar.specs.Bytes.{Bytes, letters}
-use Rattle.grammar.specs.Letters.{FoldTable}
+use Rattle.grammar.specs.Bytes.{Bytes, line_end, letters, our_letters}
+use Rattle.grammar.specs.Letters.{FoldTable, our_table}
+use Rattle.grammar.proofs.Letters.{our_table_lem}
+use Rattle.areas.specs.Area.{put, begun, cleared}
+use Rattle.areas.proofs.Begun.{put_front}
+use Rattle.limits.specs.Refusal.{number_of}
+use Rattle.limits.specs.declared.Refusal.{Refusal as Cause}
+use Rattle.reader.proofs.Calling.{number_some}
+use Rattle.listing.specs.Text.{Room, Puts}
+use Rattle.listing.specs.declared.text.Text.{Text}
 use Rattle.grammar.specs.Grammar.{joined}
 use Rattle.tables.specs.Reading.{Reading, book_of}
 use Rattle.solver.specs.End.{listed_end}
 use Rattle.hosting.specs.List.{ListOutcome, list_call}
-use Rattle.hosting.specs.Print.{printed, print_call}
+use Rattle.hosting.specs.Print.{refusal_line, printed, print_call}
 use Rattle.hosting.proofs.Ways.{Refused, Listed, way}
-use Rattle.hosting.proofs.Printing.{area_is}
+use Rattle.hosting.proofs.Printing.{area_is, refusal_room, print_refused, print_ours}
 
 module _ (table : List ℕ) (passes : FoldTable table) (t old : Bytes) (exact : length old ≡ listing_bytes) {r : ListOutcome}
     (e : r ≡ list_call table t folds old) (none : r.number ≡ 0)
@@ -39,3 +47,32 @@ module _ (table : List ℕ) (passes : FoldTable table) (t old : Bytes) (exact : 
   pub print_end : record { count = end; area = r.listing } ≡ print_call fold t
   unfolding print_call
   print_end = ap₂ (λ (i : ℕ) (a : Bytes). record { count = i; area = a }) end_is (area_is table passes t old exact r e none)
+
+-- a refusal by our table
+module _ (t old : Bytes) (exact : length old ≡ listing_bytes) (cause : Cause) {place : ℕ} {area : Bytes}
+    (e : record { number = number_of cause; line = place; listing = area } ≡ list_call our_table t folds old)
+    {number : ℕ} (n : number ≡ number_of cause) (x : Text) (front : x.end ≡ 0) (empty : x.area.now ≡ area) where
+  abbrev line : Bytes
+  line = refusal_line number place ++ (line_end ∷ [])
+
+  room : length (refusal_line number place) + 1 ≤ length area
+  room =
+      let r = refusal_room our_table our_table_lem t old exact _ e (number_some cause) in
+      omega (arith, ap (λ (i : ℕ). length (refusal_line i place)) n)
+
+  line_size : length line ≡ length (refusal_line number place) + 1
+  line_size = length-append (refusal_line number place) (line_end ∷ [])
+
+  -- there is room for its line
+  pub line_room : Room x line
+  line_room = omega (arith, front, ap length empty, room, line_size)
+
+  -- which is put, with zeros after it
+  pub print_line : {y : Text} → Puts x line y → {end : ℕ} → end ≡ y.end → {new : Bytes} → new ≡ y.area.now → (last : Bytes)
+      → last ≡ cleared end listing_bytes new → record { count = end; area = last } ≡ print_call our_letters t
+  print_line p at left last z =
+      let text = left ∙ p.area ∙ ap₂ (λ (i : ℕ) (s : Bytes). put i line s) front empty ∙ put_front line area in
+      print_ours t
+      (print_refused our_table our_table_lem t old exact _ e (number_some cause) _ _
+      (text ∙ ap (λ (i : ℕ). begun (refusal_line i place ++ (line_end ∷ [])) area) n)
+      (omega (arith, at, p.end, front, line_size, ap (λ (i : ℕ). length (refusal_line i place)) n)) last z)

@@ -1,38 +1,35 @@
 -- The line of a refusal, put field by field.
 -- Assumes nothing.
-use mathlib.Core.Path.{◌≡◌, refl}
+use mathlib.Core.Path.{◌≡◌, refl, subst}
 use mathlib.Core.List.{[], ◌∷◌, ◌++◌, append_assoc}
-use Prim.Native.Nat.{ℕ, ◌+◌, ◌≤◌}
-use lib.ListN.{length}
-use Rattle.areas.specs.Area.{put}
+use Prim.Native.Nat.{ℕ, ◌+◌}
+use native.Mathlib.Omega.{arith}
+use lib.ListN.{length, length-append}
 use Rattle.grammar.specs.Bytes.{Bytes, bytes, line_end}
-use Rattle.copying.proofs.Line.{LineLeft, line_start, part_put}
 use Rattle.solving.specs.Listing.{decimal}
 use Rattle.hosting.specs.Print.{refusal_line}
+use Rattle.listing.specs.Text.{Puts}
+use Rattle.listing.specs.declared.text.Text.{Text}
+use Rattle.listing.proofs.Texts.{puts_on}
 
--- the two fields
-abbrev number_field : ℕ → Bytes
-number_field number = bytes "DPL 0001 refused=" ++ decimal number
+-- two fields and an end
+fields : (a n b l e : Bytes) → ((a ++ n) ++ (b ++ l)) ++ e ≡ (a ++ (n ++ (b ++ l))) ++ e
+fields a n b l e = simp append_assoc refl
 
-abbrev place_field : ℕ → Bytes
-place_field place = bytes " line=" ++ decimal place
+fields_length : (a n b l e : Bytes) → length ((a ++ (n ++ (b ++ l))) ++ e) ≡ (length a + length n) + (length b + length l) + length e
+fields_length a n b l e = simp length-append (omega arith)
 
--- what is left of the line before the first field, in an area with room for the line
-pub before_number : (number place : ℕ) (old : Bytes) → length (refusal_line number place) + 1 ≤ length old
-    → LineLeft (refusal_line number place) old (number_field number) (place_field place ++ (line_end ∷ [])) old 0
-before_number number place old room = line_start (refusal_line number place) old _ _ room fields
-  where
-    fields : refusal_line number place ++ (line_end ∷ []) ≡ number_field number ++ (place_field place ++ (line_end ∷ []))
-    fields = unfold refusal_line in simp append_assoc refl
+module _ (number line : ℕ) where
+  -- those of the line
+  pub refusal_length : length (refusal_line number line ++ (line_end ∷ [])) ≡ (17 + length (decimal number)) + (6 + length (decimal line)) + 1
+  refusal_length =
+      unfold refusal_line in fields_length (bytes "DPL 0001 refused=") (decimal number) (bytes " line=") (decimal line) (line_end ∷ [])
 
--- after each
-module _ (number place : ℕ) {old text new : Bytes} {i k : ℕ} where
-  pub after_number : LineLeft (refusal_line number place) old (number_field number) (place_field place ++ (line_end ∷ [])) text i
-      → new ≡ put i (number_field number) text → k ≡ i + length (number_field number)
-      → LineLeft (refusal_line number place) old (place_field place) (line_end ∷ []) new k
-  after_number s p q = part_put s _ _ refl p q
-
-  pub after_place : LineLeft (refusal_line number place) old (place_field place) (line_end ∷ []) text i
-      → new ≡ put i (place_field place) text → k ≡ i + length (place_field place)
-      → LineLeft (refusal_line number place) old (line_end ∷ []) [] new k
-  after_place s p q = part_put s _ _ refl p q
+  -- are put one after the other
+  pub puts_refusal : {x x₁ x₂ y : Text} → Puts x (bytes "DPL 0001 refused=" ++ decimal number) x₁ → Puts x₁ (bytes " line=" ++ decimal line) x₂
+      → Puts x₂ (line_end ∷ []) y → Puts x (refusal_line number line ++ (line_end ∷ [])) y
+  puts_refusal {x} {x₁} {x₂} {y} p q r =
+      unfold refusal_line in
+      subst (λ (w : Bytes). Puts x w y)
+      (fields (bytes "DPL 0001 refused=") (decimal number) (bytes " line=") (decimal line) (line_end ∷ []))
+      (puts_on (puts_on p q) r)

@@ -1,7 +1,9 @@
 // A book listed in areas of its own, and what the lister prints of it.
 #![tactic(auto)]
 
-ghost use Rattle.std.specs.Prelude.{◌≡◌};
+ghost use Rattle.std.specs.Prelude.{◌≡◌, ◌≤◌};
+ghost use Rattle.limits.specs.Book.{listing_bytes};
+ghost use Rattle.limits.specs.Refusal.{refused_number, refused_line, count_in};
 ghost use Rattle.grammar.specs.Bytes.{our_letters, letters};
 ghost use Rattle.grammar.specs.Letters.{our_table};
 ghost use Rattle.tables.specs.Reading.{book_of};
@@ -9,24 +11,20 @@ ghost use Rattle.solver.specs.End.{listed_end};
 ghost use Rattle.hosting.specs.List.{list_call};
 ghost use Rattle.hosting.specs.Print.{print_call};
 
-use limits::Book;
-
 pub mod parts;
 
-// The number of a refusal with its line, 0 for none, and where the text of the listing ends, 0 for a refusal.
-#[derive(Clone, Copy)]
-pub struct Verdict {
-    pub number: usize,
-    pub line: usize,
-    pub end: usize,
-}
+use limits::{Book, Refused};
+use listing::text::Text;
+use parts::put_refusal;
+use scan::letters::Letters;
+use solver::Areas;
 
-// Solves the book by our letters, in areas on its own stack; only the listing area is lent. Our table passes, so it is not judged; 256 bytes are
-// never too short for it, so the number that `fill` returns is not looked at.
-pub fn list(text: &[u8], folds: usize, listing: &mut [u8]) -> Verdict
-    ensures listed { record { number = result.number; line = result.line; listing = listing.new }
+// Solves the book by our letters, in areas on its own stack; only the listing area is lent. Our table passes, so it is not judged. Returns
+// where the text of the listing ends.
+pub fn list(text: &[u8], folds: usize, listing: &mut [u8]) -> Result<usize, Refused>
+    ensures listed { record { number = refused_number result; line = refused_line result; listing = listing.new }
         ≡ list_call our_table text.now folds listing.old }
-    ensures end { result.end ≡ listed_end result.number (book_of (letters our_table) text.now) folds }
+    ensures end { count_in (λ end. end) result ≡ listed_end (refused_number result) (book_of (letters our_table) text.now) folds }
 {
     let mut spellings = [0u8; Book::NAME_AREA];
     let mut heads = [0u16; Book::RULES];
@@ -35,39 +33,35 @@ pub fn list(text: &[u8], folds: usize, listing: &mut [u8]) -> Verdict
     let mut any = [0u64; Book::ROW_AREA];
     let mut spare = [0u64; Book::ROW_AREA];
     let mut model = [0u64; Book::ROW_WORDS];
-    let mut table = [0u8; Book::LETTER_BYTES];
-    scan::table::fill(&mut table);
-    let r = solver::solve_in(
-        text,
-        &table,
-        folds,
-        &mut spellings,
-        &mut heads,
-        &mut bodies,
-        &mut all,
-        &mut any,
-        &mut spare,
-        &mut model,
+    let table = scan::table::folding();
+    let folding = Letters::of(&table);
+    let areas = Areas {
+        spellings: &mut spellings,
+        heads: &mut heads,
+        bodies: &mut bodies,
+        all: &mut all,
+        any: &mut any,
+        spare: &mut spare,
+        model: &mut model,
         listing,
-        true,
-    );
-    Verdict {
-        number: r.answer.number,
-        line: r.answer.line,
-        end: r.end,
-    }
+    };
+    let solved = areas.solve(text, &folding, folds, true)?;
+    Ok(solved.end)
 }
 
 // Lays out what the lister prints of a book, its listing after 8 folds or the line of its refusal, and returns how many bytes that is.
 pub fn print(text: &[u8], out: &mut [u8; Book::LISTING_BYTES]) -> usize
-    ensures { record { count = result; area = out.new } ≡ print_call our_letters text.now }
+    ensures printed { record { count = result; area = out.new } ≡ print_call our_letters text.now }
+    ensures within { result ≤ listing_bytes }
 {
-    let r = list(text, Book::FOLDS, out);
-    let listed = r.number == 0;
-    if listed {
-        return r.end;
+    match list(text, Book::FOLDS, out) {
+        Ok(end) => end,
+        Err(refused) => {
+            let mut line = Text::new(out);
+            put_refusal(&mut line, refused.cause.number(), refused.line);
+            let end = line.end();
+            rows::clear::clear(out, end, Book::LISTING_BYTES);
+            end
+        }
     }
-    let end = parts::put_refusal(r.number, r.line, out);
-    rows::clear::clear_tail8(out, end, Book::LISTING_BYTES);
-    end
 }

@@ -1,70 +1,103 @@
-// The cases of a file, one after another. A case is a part with its title; the number of the table under which it is read and solved, of the one
-// under which it is written, of folds, and of what is changed; and a part with its text, or with what an area holds that is to be filled.
-ghost use Rattle.std.specs.Prelude.{◌≤◌, ◌<◌, length};
+// The cases of a file, one after another. A file is made of parts: the number of a part's bytes in two, the higher first, then these bytes. It
+// begins with the number of its tables and with so many parts. A case is a part with its title; the number of the table under which it is read
+// and solved, of the one under which it is written, of folds, and of what is changed; and a part with its text, or with what an area holds that
+// is to be filled.
+ghost use Rattle.std.specs.Prelude.{◌≤◌, length};
 
-use crate::calls::FILL;
-use crate::parts::wide;
-use crate::{calls, ours, parts, sweep};
+use crate::calls::Change;
+use crate::{calls, ours};
 use std::io;
 use std::io::Write;
 use trial::print;
 
-// The bytes between title and text.
-const NUMBERS: usize = 4;
-
-fn show<W: Write>(
-    out: &mut W,
-    text: &[u8],
-    table: &[u8],
-    other: &[u8],
-    folds: usize,
-    change: usize,
-) -> io::Result<()> {
-    if change == FILL {
-        ours::show(out, text)?;
-        return Ok(());
-    }
-    calls::read(out, text, table, change)?;
-    calls::solve(out, text, table, folds, change)?;
-    calls::rewrite(out, text, table, other, change)
+// The part at the front of a file, as far as it goes, and what comes after it.
+fn part(file: &[u8]) -> (&[u8], &[u8])
+    ensures { length result.1.now ≤ length file.now }
+{
+    let [high, low, rest @ ..] = file else {
+        return (&[], &[]);
+    };
+    let size = u16::from_be_bytes([*high, *low]) as usize;
+    rest.split_at(size.min(rest.len()))
 }
 
-// The case whose title ends there.
-fn case<W: Write>(out: &mut W, file: &[u8], at: usize, swept: bool) -> io::Result<()>
-    requires { at ≤ length file.now }
-{
-    if file.len() - at >= NUMBERS {
-        let table = parts::table(file, wide(file[at]));
-        let other = parts::table(file, wide(file[at + 1]));
-        let folds = wide(file[at + 2]);
-        let text = parts::part(file, at + NUMBERS);
-        if swept {
-            sweep::each(out, text, table, folds)?;
-        } else {
-            show(out, text, table, other, folds, wide(file[at + 3]))?;
+// What comes after so many parts.
+fn after(file: &[u8], parts: u8) -> &[u8] {
+    let mut rest = file;
+    for _ in 0..parts {
+        rest = part(rest).1;
+    }
+    rest
+}
+
+#[derive(Drop)]
+pub struct Case<'a> {
+    pub title: &'a [u8],
+    pub table: &'a [u8],
+    pub other: &'a [u8],
+    pub folds: usize,
+    pub change: Change,
+    pub text: &'a [u8],
+}
+
+// The cases that are left of a file.
+#[derive(Drop)]
+pub struct Cases<'a> {
+    tables: &'a [u8],
+    rest: &'a [u8],
+}
+
+impl<'a> Cases<'a> {
+    pub fn of(file: &'a [u8]) -> Cases<'a> {
+        let [count, tables @ ..] = file else {
+            return Cases {
+                tables: &[],
+                rest: &[],
+            };
+        };
+        Cases {
+            tables,
+            rest: after(tables, *count),
         }
     }
-    Ok(())
+
+    fn table(&self, k: u8) -> &'a [u8] {
+        part(after(self.tables, k)).0
+    }
 }
 
-// The place after that case.
-fn next(file: &[u8], at: usize) -> usize
-    requires { at ≤ length file.now }
-    ensures { (at ≤ result) × (result ≤ length file.now) }
-{
-    if file.len() - at <= NUMBERS {
-        return file.len();
+impl<'a> Iterator for Cases<'a> {
+    type Item = Case<'a>;
+
+    ghost use Rattle.std.specs.Prelude.{length};
+    ghost use Rattle.std.specs.Iterator.{at_most};
+
+    ghost remaining = { λ s. at_most (length s.rest.now) };
+
+    fn next(&mut self) -> Option<Case<'a>> {
+        let (title, numbers) = part(self.rest);
+        let [table, other, folds, change, rest @ ..] = numbers else {
+            return None;
+        };
+        let (text, rest) = part(rest);
+        self.rest = rest;
+        Some(Case {
+            title,
+            table: self.table(*table),
+            other: self.table(*other),
+            folds: *folds as usize,
+            change: Change::from(*change),
+            text,
+        })
     }
-    parts::after(file, at + NUMBERS)
 }
 
-pub fn each<W: Write>(out: &mut W, file: &[u8], swept: bool) -> io::Result<()> {
-    let mut at = parts::first(file);
-    while at < file.len() {
-        print::line(out, parts::part(file, at))?;
-        let end = parts::after(file, at);
-        case(out, file, end, swept)?;
-        at = next(file, end);
+pub fn show<W: Write>(out: &mut W, case: &Case) -> io::Result<()> {
+    print::line(out, case.title)?;
+    if case.change == Change::Filled {
+        return ours::show(out, case.text);
     }
-    Ok(())
+    calls::read(out, case.text, case.table, case.change)?;
+    calls::solve(out, case.text, case.table, case.folds, case.change)?;
+    calls::rewrite(out, case.text, case.table, case.other, case.change)
 }

@@ -5,7 +5,6 @@
 mod calls;
 mod cases;
 mod ours;
-mod parts;
 mod sweep;
 
 use std::fs::Files;
@@ -13,10 +12,20 @@ use std::io::{BufWriter, Write};
 use std::{env, io};
 use trial::files;
 
-fn argument<R: Files + Eprint, W: Write>(rt: &R, out: &mut W, path: &str) -> io::Result<()> {
-    let mut file = [0u8; files::INPUT];
-    let got = files::take(rt, out, path, &mut file)?;
-    cases::each(out, &file[..got], files::swept(path))
+fn argument<R: Files + AllocGlobal + Eprint, W: Write>(
+    rt: &R,
+    out: &mut W,
+    path: &str,
+) -> io::Result<()> {
+    let file = files::take(rt, out, path)?;
+    for case in cases::Cases::of(&file) {
+        if files::swept(path) {
+            sweep::each(out, &case)?;
+        } else {
+            cases::show(out, &case)?;
+        }
+    }
+    Ok(())
 }
 
 fn main(rt: HostRuntime) -> io::Result<()> {

@@ -1,125 +1,100 @@
-// Makes a call many times for each argument, so that it is timed from outside (bench/letters). The first byte of an argument is the case. The
-// reader is called with `s`, a table that is too short, judged no further; `l`, a table refused for its last entry, which is judged whole and with
-// which nothing is read; `w`, a table that passes, with which the book below is read whole. With `f` an area is filled with our letters, with `e`
-// entry by entry.
+// Makes a call many times for each argument, so that it is timed from outside (bench/letters). The first byte of an argument is the case.
 #![tactic(auto)]
 
-use limits::Book;
-use scan::table::{fill, letter};
+use scan::table::fill;
 use std::io::{BufWriter, Write};
 use std::{env, io};
-use trial::print;
+use trial::lent::{Tables, letters};
 
 // An odd number, so that a number returned each time is what is left of them.
 const CALLS: usize = 65537;
 
 const BOOK: [u8; 26] = *b"DPB 0001\np:q\nq:p r\nq:s\ns:\n";
 
-// The last entry of the table in call i: another one than in the call before, so that no call can be left out for being the same.
-fn last_entry(case: u8, i: usize) -> u8 {
-    if case == b'l' {
-        return if i % 2 == 0 { 1 } else { 2 };
-    }
-    if i % 2 == 0 { 0 } else { 255 }
+#[derive(Clone, Copy, PartialEq, Eq)]
+enum Case {
+    // The reader with a table that is too short, judged no further.
+    ShortTable,
+    // With a table refused for its last entry, which is judged whole and with which nothing is read.
+    LastEntry,
+    // With a table that passes, with which the book is read whole.
+    WholeBook,
+    // An area filled with our letters.
+    Filled,
+    // Entry by entry.
+    Entered,
 }
 
-// Reads the book with the first bytes of the table lent, and returns the number.
-fn read(
-    table: &[u8],
-    size: usize,
-    spellings: &mut [u8],
-    heads: &mut [u16],
-    bodies: &mut [u64],
-) -> usize {
-    let book = BOOK;
-    let mut number = 0;
-    if size <= table.len() {
-        let r = reader::read(&book, &table[0..size], spellings, heads, bodies);
-        number = r.number;
+impl From<u8> for Case {
+    fn from(letter: u8) -> Case {
+        match letter {
+            b's' => Case::ShortTable,
+            b'l' => Case::LastEntry,
+            b'f' => Case::Filled,
+            b'e' => Case::Entered,
+            _ => Case::WholeBook,
+        }
     }
-    number
+}
+
+// The last entry of the table in call i: another one than in the call before, so that no call can be left out for being the same.
+fn last_entry(case: Case, i: usize) -> u8 {
+    let (even, odd) = if case == Case::LastEntry {
+        (1, 2)
+    } else {
+        (0, 255)
+    };
+    if i % 2 == 0 { even } else { odd }
 }
 
 // The numbers returned, joined by exclusive or.
-fn repeat(case: u8) -> u64 {
-    let size = if case == b's' { 255 } else { 256 };
+fn read(case: Case) -> u64 {
+    let size = if case == Case::ShortTable { 255 } else { 256 };
     let mut table = scan::table::folding();
-    let mut spellings = [0u8; Book::NAME_AREA];
-    let mut heads = [0u16; Book::RULES];
-    let mut bodies = [0u64; Book::BODY_AREA];
+    let mut tables = Tables::marked();
+    let mut lent = tables.whole();
     let mut joined = 0;
     for i in 0..CALLS {
         table[255] = last_entry(case, i);
-        let number = read(&table, size, &mut spellings, &mut heads, &mut bodies);
-        joined ^= number as u64;
+        if let Err(refused) = lent.read(&BOOK, &table[..size]) {
+            joined ^= refused.cause.number() as u64;
+        }
     }
     joined
 }
 
-fn set_entry(area: &mut [u8], b: u8) {
-    if (b as usize) < area.len() {
-        area[b as usize] = letter(b);
-    }
-}
-
-fn fill_each(area: &mut [u8]) {
-    let mut b = 0;
-    while b < 255 {
-        set_entry(area, b);
-        b += 1;
-    }
-    set_entry(area, 255);
-}
-
-fn fill_by(case: u8, area: &mut [u8]) {
-    if case == b'f' {
-        fill(area);
-        return;
-    }
-    fill_each(area);
-}
-
-// The entry of one of the capital letters, another one than in the call before; it is then spoilt, so that no call can be left out.
-fn taken(table: &mut [u8], i: usize) -> u8 {
-    let at = b'A' as usize + i % 26;
-    if at < table.len() {
-        let entry = table[at];
-        table[at] = 0;
-        return entry;
-    }
-    0
-}
-
-// The entries taken, joined by exclusive or.
-fn refill(case: u8) -> u64 {
-    let mut table = [0u8; Book::LETTER_BYTES];
+// The entry of one of the capital letters, another one than in the call before, is taken out, so that no call can be left out; the entries
+// joined by exclusive or.
+fn refill<F: Fn(&mut [u8])>(fill: F) -> u64
+    requires { F.IsAlwaysCallable fill }
+{
+    let mut table = scan::table::folding();
     let mut joined = 0;
     for i in 0..CALLS {
-        fill_by(case, &mut table);
-        joined ^= taken(&mut table, i) as u64;
+        fill(&mut table);
+        let at = b'A' as usize + i % 26;
+        joined ^= table[at] as u64;
+        table[at] = 0;
     }
     joined
 }
 
-fn result(case: u8) -> u64 {
-    if case == b'f' || case == b'e' {
-        return refill(case);
+fn result(case: Case) -> u64 {
+    match case {
+        Case::Filled => refill(|table| {
+            let _ = fill(table);
+        }),
+        Case::Entered => refill(|table| letters(table)),
+        _ => read(case),
     }
-    repeat(case)
-}
-
-fn argument<W: Write>(out: &mut W, name: &str) -> io::Result<()> {
-    if let Some(case) = name.as_bytes().first() {
-        print::first(out, result(*case))?;
-        print::end(out)?;
-    }
-    Ok(())
 }
 
 fn main(rt: HostRuntime) -> io::Result<()> {
     let mut out = BufWriter::new(rt.alloc(), io::writer(&rt))?;
     for name in env::args(&rt)?.skip(1) {
-        argument(&mut out, name.as_str())?;
+        if let Some(letter) = name.as_bytes().first() {
+            writeln!(out, "{}", result(Case::from(*letter)))?;
+        }
     }
     out.flush()
 }

@@ -9,8 +9,6 @@ use native.Mathlib.Omega.{arith}
 use lib.Dec.{eqb, ltb, lit<}
 use lib.ListN.{length, get_or}
 use borrow.Author.Tests.{eqb-true, eqb-false, ltb-true, ltb-false}
-use mir.Syntax.{w16, w64}
-use mir.Val.{Fits}
 use Rattle.sets.specs.Set.{pick}
 use Rattle.sets.proofs.Logic.{either, not-true, pick_true, pick_false}
 use Rattle.grammar.specs.Bytes.{Bytes}
@@ -153,53 +151,58 @@ names_length area n = length_names_from area n 0
 pub names_at : (area : Bytes) (n a : ℕ) → a < n → get_or (names_in area n) a [] ≡ name_at area a
 names_at area n a l = get_or_names_from area n 0 a l ∙ ap (name_at area) (zero-add a)
 
--- the walk over the first n names of an area
+-- the walk over the first n names of an area stands at k
+pub record Walking (area : Bytes) (n : ℕ) (w : Bytes) (k : ℕ) : Type 0 where
+  pub bound : k ≤ n
+  pub walk : Walk (names_in area n) w k
+
+-- that walk
 module _ (area : Bytes) (n : ℕ) (first prior : List ℕ) (ix : Indexed (names_in area n) first prior) (w : Bytes) where
   -- these names
   abbrev ns : List Bytes
   ns = names_in area n
 
-  -- it starts from the bucket
-  pub find_start : (b : ℕ) → b ≡ hash_of w → Walk ns w (get_or first b 0)
-  find_start b e = rw e (walk_start ns first prior ix w (hash_lt (hash_of w) w refl))
-
   -- it stays among the names
-  pub find_bound : (k : ℕ) → Walk ns w k → k ≤ n
-  find_bound k s = omega (arith, s.bound, names_length area n)
+  among : (k : ℕ) → Walk ns w k → Walking area n w k
+  among k s = record { bound = omega (arith, s.bound, names_length area n); walk = s }
+
+  -- it starts from the bucket
+  pub find_start : (b k : ℕ) → b ≡ hash_of w → k ≡ get_or first b 0 → Walking area n w k
+  find_start b k e q = among k (rw (q, e) (walk_start ns first prior ix w (hash_lt (hash_of w) w refl)))
 
   -- it stands at k, not at its end, and name k - 1 is compared with w
-  module _ (k : ℕ) (s : Walk ns w k) (some : k ≡ 0 → ⊥) (r : Bool) (e : r ≡ same_bytes (name_at area (k - 1)) w) where
+  module _ (k : ℕ) (s : Walking area n w k) (some : k ≡ 0 → ⊥) (r : Bool) (e : r ≡ same_bytes (name_at area (k - 1)) w) where
     -- that is name k - 1 of the list
     at_name : r ≡ same_bytes (get_or ns (k - 1) []) w
     at_name =
-        let l : k - 1 < n = omega (arith, find_bound k s) in
+        let l : k - 1 < n = omega (arith, s.bound) in
         e ∙ ap (λ (x : Bytes). same_bytes x w) (sym (names_at area n (k - 1) l))
 
     -- which the walk stands at
     here : Walk ns w (suc (k - 1))
     here =
         let q : k ≡ suc (k - 1) = omega arith in
-        subst (Walk ns w) q s
+        subst (Walk ns w) q s.walk
 
     -- the name there is w
     pub find_hit : r ≡ true → k - 1 ≡ place ns w
     find_hit t = walk_hit ns first prior ix w (k - 1) here (sym at_name ∙ t)
 
-    -- it is not
-    pub find_next : r ≡ false → Walk ns w (get_or prior (k - 1) 0)
-    find_next f = walk_next ns first prior ix w (k - 1) here (sym at_name ∙ f)
+    -- it is not: the walk goes on
+    module _ (next : ℕ) (q : next ≡ get_or prior (k - 1) 0) where
+      pub find_next : r ≡ false → Walking area n w next
+      find_next f = among next (rw q (walk_next ns first prior ix w (k - 1) here (sym at_name ∙ f)))
 
-    -- and the walk goes down
-    pub find_less : get_or prior (k - 1) 0 < k
-    find_less =
-        let l : k - 1 < length ns = omega (arith, s.bound) in
-        let p : get_or prior (k - 1) 0 ≤ k - 1 = rw (ix.priors (k - 1) l) (latest_le ns (hash_of (get_or ns (k - 1) [])) (k - 1)) in
-        omega arith
+      -- downwards
+      pub find_less : next < k
+      find_less =
+          let l : k - 1 < length ns = omega (arith, s.walk.bound) in
+          let p : get_or prior (k - 1) 0 ≤ k - 1 = rw (ix.priors (k - 1) l) (latest_le ns (hash_of (get_or ns (k - 1) [])) (k - 1)) in
+          omega arith
 
   -- at its end there is none
-  pub find_miss : (k : ℕ) → Walk ns w k → k ≡ 0 → n ≡ place ns w
-  find_miss k s e = sym (names_length area n) ∙ walk_miss ns first prior ix w (subst (Walk ns w) e s)
+  pub find_miss : (k : ℕ) → Walking area n w k → k ≡ 0 → n ≡ place ns w
+  find_miss k s e = sym (names_length area n) ∙ walk_miss ns first prior ix w (subst (Walk ns w) e s.walk)
 
--- a 16-bit value is a 64-bit one
-pub widened : (x : ℕ) → Fits w16 x → Fits w64 x
-widened x h = record { fits = omega (arith, h.fits) }
+-- what proves the walk
+pub ruleset walks = (hash_lt, find_start, find_hit, find_next, find_less, find_miss)

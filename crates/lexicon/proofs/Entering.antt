@@ -172,12 +172,6 @@ module _ (ns : List Bytes) (w : Bytes) where
           distinct = distinct_more;
         }
 
--- fewer names than fit leave room
-pub room_for : (n : ℕ) → n ≤ names → eqb n names ≡ false → n < names
-room_for n l f =
-    let ne : n ≡ names → ⊥ = eqb-false n names f in
-    omega arith
-
 -- what entering leaves of the first n names of an area
 module _ (area w : Bytes) (n a : ℕ) (first prior : List ℕ) (ix : Indexed (names_in area n) first prior) (q : a ≡ place (names_in area n) w) where
   -- these names

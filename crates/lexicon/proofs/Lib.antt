@@ -1,4 +1,5 @@
 pub mod Spelling
+pub mod Rows
 pub mod Chains
 pub mod Entering
 pub mod LookUp

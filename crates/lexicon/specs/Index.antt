@@ -4,10 +4,10 @@ use Rattle.std.specs.Prelude.{◌≡◌, Bool, true, false, ◌||◌, List, [], 
 use Rattle.limits.specs.Book.{names, name_bytes}
 use Rattle.sets.specs.Set.{pick}
 use Rattle.areas.specs.Area.{part, put}
-use Rattle.grammar.specs.Bytes.{Bytes}
+use Rattle.grammar.specs.Bytes.{Bytes, all_of}
 use Rattle.grammar.specs.Lines.{is_name}
 use Rattle.tables.specs.Numbering.{same_bytes, place}
-use Rattle.tables.specs.Areas.{padded}
+use Rattle.tables.specs.Areas.{nonzero, padded}
 use Rattle.scan.specs.Hash.{buckets, hash_of}
 
 -- the last of the first k names that lies in bucket b, counted from 1; 0 for none
@@ -30,6 +30,10 @@ word_at fold text at len = map fold (part at len text)
 -- a name stands there
 abbrev pub NameAt : (ℕ → ℕ) → Bytes → ℕ → ℕ → Type 0
 NameAt fold text at len = (at + len ≤ length text) × (is_name fold (part at len text) ≡ true)
+
+-- fit for a row of the name area: at most 32 bytes, none of them zero
+abbrev pub Storable : Bytes → Type 0
+Storable w = (length w ≤ name_bytes) × (all_of nonzero w ≡ true)
 
 -- w is one of the names, or there is no room for another
 unfoldable pub none_added : List Bytes → Bytes → Bool

@@ -2,108 +2,95 @@
 #![tactic(auto)]
 
 pub mod look_up;
+pub mod name;
 
-ghost use Rattle.std.specs.Prelude.{◌≡◌, ◌+◌, ◌*◌, ◌<◌, ◌≤◌, length, get_or, set};
+ghost use Rattle.std.specs.Prelude.{◌≡◌, ◌+◌, ◌*◌, ◌<◌, ◌≤◌, IfSome, length, get_or, set, replicate};
 ghost use Rattle.limits.specs.Book.{names, name_bytes, name_area};
 ghost use Rattle.areas.specs.Area.{put};
-ghost use Rattle.grammar.specs.Bytes.{letters};
-ghost use Rattle.grammar.specs.Letters.{FoldTable};
 ghost use Rattle.scan.specs.Hash.{buckets, hash_of};
 ghost use Rattle.tables.specs.Numbering.{same_bytes, place};
-ghost use Rattle.tables.specs.Areas.{name_at, names_in, padded};
-ghost use Rattle.lexicon.specs.Index.{Indexed, NameAt, word_at};
+ghost use Rattle.tables.specs.Areas.{name_at, padded};
 
 use limits::Book;
-use rows::clear::clear_tail8;
-use scan::table::fold;
+use name::Name;
+use scan::cursor::Word;
 
-// Whether the word of len bytes from place `at` of the text, folded, is name a.
-pub fn spells(spellings: &[u8], a: usize, text: &[u8], table: &[u8], at: usize, len: usize) -> bool
-    requires { (a < names) × (name_area ≤ length spellings.now)
-        × NameAt (letters table.now) text.now at len × FoldTable table.now }
-    ensures { result ≡ same_bytes (name_at spellings.now a)
-        (word_at (letters table.now) text.now at len) }
-{
-    let row = Book::name_at(a);
-    let mut i = 0;
-    while i < len {
-        let b = text[at + i];
-        let f = fold(table, b);
-        if spellings[row + i] != f {
-            return false;
+// The names while lines are read: the lent area in whose first rows they stand, how many there are, and their index, for each bucket its last
+// name and for each name the one before it in its bucket, counted from 1. That the names are in order is no ghost field: `add` takes any name,
+// and would have to ask for a new one.
+#[derive(Drop)]
+pub struct Lexicon<'a> {
+    pub spellings: &'a mut [u8],
+    pub count: usize,
+    pub first: [u16; Word::BUCKETS],
+    pub prior: [u16; Book::NAMES],
+    ghost room: { (count ≤ names) × (name_area ≤ length spellings.now) },
+}
+
+impl<'a> Lexicon<'a> {
+    ghost use Rattle.lexicon.specs.Held.{names_held, IndexHeld};
+    ghost use Rattle.lexicon.specs.Index.{Storable};
+
+    // Without names, over a lent area.
+    pub fn new(spellings: &'a mut [u8]) -> Lexicon<'a>
+        requires { name_area ≤ length spellings.old }
+        ensures same { result.spellings.ghost_name ≡ spellings.entry.ghost_name }
+        ensures area { (result.spellings.now ≡ spellings.old) × (result.count ≡ 0) }
+        ensures index { (result.first ≡ replicate buckets 0) × (result.prior ≡ replicate names 0) }
+    {
+        Lexicon {
+            spellings,
+            count: 0,
+            first: [0; Word::BUCKETS],
+            prior: [0; Book::NAMES],
         }
-        i += 1;
     }
-    len == Book::NAME_BYTES || spellings[row + len] == 0
-}
 
-// The number of that word among the first n names, n where it is none of them.
-pub fn find(
-    spellings: &[u8],
-    n: usize,
-    first: &[u16],
-    prior: &[u16],
-    text: &[u8],
-    table: &[u8],
-    at: usize,
-    len: usize,
-    bucket: usize,
-) -> usize
-    requires n_le_names { (n ≤ names) × (name_area ≤ length spellings.now)
-        × NameAt (letters table.now) text.now at len × FoldTable table.now }
-    requires indexed { Indexed (names_in spellings.now n) first.now prior.now
-        × (bucket ≡ hash_of (word_at (letters table.now) text.now at len)) }
-    ensures { result ≡ place (names_in spellings.now n)
-        (word_at (letters table.now) text.now at len) }
-{
-    let mut k = first[bucket] as usize;
-    while k != 0 {
-        if spells(spellings, k - 1, text, table, at, len) {
-            return k - 1;
+    // Whether that is name a.
+    #[tactic(auto, using(crate::proofs::Rows::spelt))]
+    pub fn spells(&self, a: usize, name: &Name<'_>) -> bool
+        requires { a < names }
+        ensures { result ≡ same_bytes (name_at self.now.spellings.now a) name.now }
+    {
+        let row = Book::name_at(a);
+        name.fills(&self.spellings[row..row + Book::NAME_BYTES])
+    }
+
+    // The number of a name, where it is one of them.
+    #[tactic(auto, using(crate::proofs::Chains::walks))]
+    pub fn find(&self, name: &Name<'_>) -> Option<usize>
+        requires { IndexHeld self.now }
+        ensures known { IfSome result (λ a. (a < self.now.count) × (a ≡ place (names_held self.now) name.now)) }
+        ensures new { result ≡ None → place (names_held self.now) name.now ≡ self.now.count }
+        ensures fine { Storable name.now }
+    {
+        let mut k = usize::from(self.first[name.bucket()]);
+        while k != 0 {
+            if self.spells(k - 1, name) {
+                return Some(k - 1);
+            }
+            k = usize::from(self.prior[k - 1]);
         }
-        k = prior[k - 1] as usize;
+        None
     }
-    n
-}
 
-// Row a becomes that word, padded with zeros. The row is cleared as a whole, since a length that the compiler knows costs two stores and not
-// a call.
-pub fn write_name(spellings: &mut [u8], a: usize, text: &[u8], table: &[u8], at: usize, len: usize)
-    requires { (a < names) × (name_area ≤ length spellings.old)
-        × NameAt (letters table.now) text.now at len × FoldTable table.now }
-    ensures { spellings.new
-        ≡ put (a * name_bytes) (padded (word_at (letters table.now) text.now at len)) spellings.old }
-{
-    let row = Book::name_at(a);
-    clear_tail8(spellings, row, row + Book::NAME_BYTES);
-    let mut i = 0;
-    while i < len {
-        spellings[row + i] = fold(table, text[at + i]);
-        i += 1;
+    // A new name follows the others, and leads its bucket before the name that led it.
+    pub fn add(&mut self, name: &Name<'_>)
+        requires { self.old.count < names }
+        ensures same { self.new.spellings.ghost_name ≡ self.old.spellings.ghost_name }
+        ensures count { self.new.count ≡ self.old.count + 1 }
+        ensures area { self.new.spellings.now
+            ≡ put (self.old.count * name_bytes) (padded name.now) self.old.spellings.now }
+        ensures firsts { self.new.first ≡ set self.old.first (hash_of name.now) (self.old.count + 1) }
+        ensures priors { self.new.prior
+            ≡ set self.old.prior self.old.count (get_or self.old.first (hash_of name.now) 0) }
+    {
+        let n = self.count;
+        let bucket = name.bucket();
+        let row = Book::name_at(n);
+        name.write(&mut self.spellings[row..row + Book::NAME_BYTES]);
+        self.prior[n] = self.first[bucket];
+        self.first[bucket] = (n + 1) as u16;
+        self.count = n + 1;
     }
-}
-
-// A new word becomes name n, and leads its bucket before the name that led it.
-pub fn add(
-    spellings: &mut [u8],
-    n: usize,
-    first: &mut [u16],
-    prior: &mut [u16],
-    text: &[u8],
-    table: &[u8],
-    at: usize,
-    len: usize,
-    bucket: usize,
-)
-    requires n_lt_names { (n < names) × (name_area ≤ length spellings.old)
-        × NameAt (letters table.now) text.now at len × FoldTable table.now }
-    requires first_len { (length first.old ≡ buckets) × (length prior.old ≡ names) × (bucket < buckets) }
-    ensures area { spellings.new
-        ≡ put (n * name_bytes) (padded (word_at (letters table.now) text.now at len)) spellings.old }
-    ensures firsts { first.new ≡ set first.old bucket (n + 1) }
-    ensures priors { prior.new ≡ set prior.old n (get_or first.old bucket 0) }
-{
-    write_name(spellings, n, text, table, at, len);
-    prior[n] = first[bucket];
-    first[bucket] = (n + 1) as u16;
 }

@@ -1,4 +1,4 @@
-// The book type: every limit of a book, once, and where the parts of an area begin. The numbers of refusals.
+// The book type: every limit of a book, once, and where the parts of an area begin. Why calls refuse.
 #![tactic(auto)]
 
 ghost use Rattle.std.specs.Prelude.{◌≡◌, ◌*◌, ◌/◌, ◌%◌, ◌≤◌};
@@ -94,60 +94,67 @@ impl Book {
     }
 }
 
-// The numbers under which calls refuse, as documents 01 and 02 have them.
-#[derive(Drop)]
-pub struct Refusal;
+// Why a call refuses. Documents 01 and 02 give each cause its number.
+#[derive(Clone, Copy, Debug, PartialEq, Eq)]
+pub enum Refusal {
+    ShortArea,
+    LongText,
+    Mark,
+    LastByte,
+    Line,
+    Names,
+    Rules,
+    Atoms,
+    Folds,
+    IllFormed,
+    StartLost,
+    LongWritten,
+    LongName,
+    BarredByte,
+    ReservedByte,
+    UnsettledEntry,
+}
 
 impl Refusal {
-    pub const SHORT_AREA: usize = 1;
+    ghost use Rattle.limits.specs.Refusal.{number_of};
 
-    pub const LONG_TEXT: usize = 2;
+    // Its number there.
+    pub fn number(self) -> usize
+        ensures { result ≡ number_of self }
+    {
+        match self {
+            Refusal::ShortArea => 1,
+            Refusal::LongText => 2,
+            Refusal::Mark => 3,
+            Refusal::LastByte => 4,
+            Refusal::Line => 5,
+            Refusal::Names => 6,
+            Refusal::Rules => 7,
+            Refusal::Atoms => 8,
+            Refusal::Folds => 9,
+            Refusal::IllFormed => 10,
+            Refusal::StartLost => 11,
+            Refusal::LongWritten => 12,
+            Refusal::LongName => 13,
+            Refusal::BarredByte => 14,
+            Refusal::ReservedByte => 20,
+            Refusal::UnsettledEntry => 21,
+        }
+    }
+}
 
-    pub const MARK: usize = 3;
+// A refusal with the line that it is for, 0 where it is for none.
+#[derive(Clone, Copy, Debug, PartialEq, Eq)]
+pub struct Refused {
+    pub cause: Refusal,
+    pub line: usize,
+}
 
-    pub const LAST_BYTE: usize = 4;
+// A cause that no line has.
+impl From<Refusal> for Refused {
+    ghost from_gives = { λ cause r. r ≡ record { cause = cause; line = 0 } };
 
-    pub const LINE: usize = 5;
-
-    pub const NAMES: usize = 6;
-
-    pub const RULES: usize = 7;
-
-    pub const ATOMS: usize = 8;
-
-    pub const FOLDS: usize = 9;
-
-    pub const ILL_FORMED: usize = 10;
-
-    pub const START_LOST: usize = 11;
-
-    pub const LONG_WRITTEN: usize = 12;
-
-    pub const LONG_NAME: usize = 13;
-
-    pub const BARRED_BYTE: usize = 14;
-
-    pub const RESERVED_BYTE: usize = 20;
-
-    pub const UNSETTLED_ENTRY: usize = 21;
-
-    // Does nothing: its contract ties each constant to its number there.
-    pub fn numbers()
-        ensures area { Refusal.SHORT_AREA ≡ 1 }
-        ensures text { Refusal.LONG_TEXT ≡ 2 }
-        ensures mark { Refusal.MARK ≡ 3 }
-        ensures last { Refusal.LAST_BYTE ≡ 4 }
-        ensures line { Refusal.LINE ≡ 5 }
-        ensures names { Refusal.NAMES ≡ 6 }
-        ensures rules { Refusal.RULES ≡ 7 }
-        ensures atoms { Refusal.ATOMS ≡ 8 }
-        ensures folds { Refusal.FOLDS ≡ 9 }
-        ensures formed { Refusal.ILL_FORMED ≡ 10 }
-        ensures start { Refusal.START_LOST ≡ 11 }
-        ensures written { Refusal.LONG_WRITTEN ≡ 12 }
-        ensures spelt { Refusal.LONG_NAME ≡ 13 }
-        ensures barred { Refusal.BARRED_BYTE ≡ 14 }
-        ensures reserved { Refusal.RESERVED_BYTE ≡ 20 }
-        ensures unsettled { Refusal.UNSETTLED_ENTRY ≡ 21 }
-    {}
+    fn from(cause: Refusal) -> Refused {
+        Refused { cause, line: 0 }
+    }
 }

@@ -7,7 +7,8 @@ use native.Mathlib.Nat.{mod-lt, one-mul, zero-add}
 use native.Mathlib.Omega.{arith}
 use lib.Dec.{eqb}
 use lib.Count.{ones}
-use lib.ListN.{get_or}
+use lib.ListN.{length, take, get_or}
+use lib.Seq.{length-take-le}
 use lib.Pow.{pow_pos, shl_exact, field, mod-mod-pow}
 use Rattle.limits.specs.Book.{names, word_bits, row_words}
 use Rattle.sets.specs.Set.{count}
@@ -40,11 +41,11 @@ one_up b l = shl_exact 1 b word_bits (omega arith) (omega arith) ∙ one-mul (2 
 -- the number n stands at bit b of word k
 module _ (model : List ℕ) (n k b : ℕ) (e : k ≡ n / word_bits) (f : b ≡ n % word_bits) where
   -- by which the word can be divided
-  pub divides : 0 < (1 * 2 ^ b) % 2 ^ word_bits
+  divides : 0 < (1 * 2 ^ b) % 2 ^ word_bits
   divides = omega (arith, one_up b (omega arith), pow_pos b)
 
   -- the low bits are few
-  pub low_le : ones (get_or model k 0 % ((1 * 2 ^ b) % 2 ^ word_bits)) ≤ word_bits
+  low_le : ones (get_or model k 0 % ((1 * 2 ^ b) % 2 ^ word_bits)) ≤ word_bits
   low_le =
       let l : b < word_bits = omega arith in
       omega (
@@ -55,23 +56,31 @@ module _ (model : List ℕ) (n k b : ℕ) (e : k ≡ n / word_bits) (f : b ≡ n
       )
 
   -- they and the words before make up the count
-  pub count_held : (whole : ℕ) → whole ≡ count (k * word_bits) (row (part 0 k model)) → n ≤ names
-      → whole + ones (get_or model k 0 % ((1 * 2 ^ b) % 2 ^ word_bits)) ≡ count n (model_in model)
-  count_held whole g h =
-      let l : b < word_bits = omega arith in
-      let m : k < row_words = omega arith in
-      let at : k * word_bits + b ≡ n = omega arith in
-      ap₂ ◌+◌
-      (g ∙ count_same (k * word_bits) (row (part 0 k model)) (model_in model) words)
-      (ap (λ (d : ℕ). ones (get_or model k 0 % d)) (one_up b l) ∙ ones_low (get_or model k 0) b
-      ∙ count_same b (bit (get_or model k 0)) (λ i. model_in model (k * word_bits + i)) (bits l m))
-      ∙ sym (count_add (k * word_bits) b (model_in model)) ∙ ap (λ (x : ℕ). count x (model_in model)) at
-    where
-      words : (a : ℕ) → a < k * word_bits → row (part 0 k model) a ≡ model_in model a
-      words a l = row_part 0 k model a l ∙ sym (row_part 0 row_words model a (omega arith))
+  module _ (h : n ≤ names) (long : row_words ≤ length model) (whole : ℕ)
+      (g : whole ≡ count (length (take k model) * word_bits) (row (take k model))) where
+    -- so many words are there
+    whole_words : whole ≡ count (k * word_bits) (row (take k model))
+    whole_words = g ∙ ap (λ (j : ℕ). count (j * word_bits) (row (take k model))) (length-take-le k model (omega arith))
 
-      bits : b < word_bits → k < row_words → (i : ℕ) → i < b → bit (get_or model k 0) i ≡ model_in model (k * word_bits + i)
-      bits l m i c =
-          sym
-          (row_word (part 0 row_words model) k i (omega arith)
-          ∙ ap (λ (x : ℕ). bit x i) (word_of 0 row_words model k m ∙ ap (λ (x : ℕ). get_or model x 0) (zero-add k)))
+    pub count_small : whole + ones (get_or model k 0 % ((1 * 2 ^ b) % 2 ^ word_bits)) ≤ names + word_bits
+    count_small = omega (arith, low_le, whole_words, count_le (k * word_bits) (row (take k model)))
+
+    pub count_held : whole + ones (get_or model k 0 % ((1 * 2 ^ b) % 2 ^ word_bits)) ≡ count n (model_in model)
+    count_held =
+        let l : b < word_bits = omega arith in
+        let m : k < row_words = omega arith in
+        let at : k * word_bits + b ≡ n = omega arith in
+        ap₂ ◌+◌
+        (whole_words ∙ count_same (k * word_bits) (row (take k model)) (model_in model) words)
+        (ap (λ (d : ℕ). ones (get_or model k 0 % d)) (one_up b l) ∙ ones_low (get_or model k 0) b
+        ∙ count_same b (bit (get_or model k 0)) (λ i. model_in model (k * word_bits + i)) (bits l m))
+        ∙ sym (count_add (k * word_bits) b (model_in model)) ∙ ap (λ (x : ℕ). count x (model_in model)) at
+      where
+        words : (a : ℕ) → a < k * word_bits → row (take k model) a ≡ model_in model a
+        words a l = row_part 0 k model a l ∙ sym (row_part 0 row_words model a (omega arith))
+
+        bits : b < word_bits → k < row_words → (i : ℕ) → i < b → bit (get_or model k 0) i ≡ model_in model (k * word_bits + i)
+        bits l m i c =
+            sym
+            (row_word (part 0 row_words model) k i (omega arith)
+            ∙ ap (λ (x : ℕ). bit x i) (word_of 0 row_words model k m ∙ ap (λ (x : ℕ). get_or model x 0) (zero-add k)))

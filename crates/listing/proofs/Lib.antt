@@ -1,5 +1,5 @@
-pub mod Numbers
 pub mod Heads
 pub mod Held
 pub mod Lines
 pub mod Whole
+pub mod Texts

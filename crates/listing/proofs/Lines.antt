@@ -2,23 +2,29 @@
 -- Assumes nothing.
 use mathlib.Core.Path.{◌≡◌, refl, sym, ap, subst, ◌∙◌}
 use mathlib.Core.Bool.{true, false}
-use mathlib.Core.List.{List, [], ◌∷◌, ◌++◌, map}
-use Prim.Native.Nat.{ℕ, zero, suc, ◌+◌, ◌-◌, ◌≤◌, ◌<◌}
+use mathlib.Core.List.{List, [], ◌∷◌, ◌++◌, map, append_assoc, append-nil}
+use Prim.Native.Nat.{ℕ, zero, suc, ◌+◌, ◌-◌, ◌*◌, ◌≤◌, ◌<◌}
 use native.Mathlib.Nat.{add-zero, zero-add}
 use native.Mathlib.Numerals.{add-one}
 use native.Mathlib.Omega.{arith}
-use lib.ListN.{length, get_or, set, length-append}
+use lib.ListN.{length, get_or, take, length-append}
+use lib.Seq.{length-take-le}
 use borrow.Author.Tests.{lt-ltb, le-leb}
-use Rattle.limits.specs.Book.{names, name_area}
+use Rattle.limits.specs.Book.{names, word_bits, row_words, name_area}
 use Rattle.sets.specs.Set.{Set, next, members}
 use Rattle.sets.proofs.Logic.{and_make, pick_true, pick_false}
 use Rattle.sets.proofs.Walk.{next_spec, walk_range, none_between}
-use Rattle.areas.specs.Area.{put}
 use Rattle.grammar.specs.Bytes.{Bytes, line_end}
 use Rattle.grammar.specs.Grammar.{joined}
 use Rattle.tables.specs.Areas.{name_at, names_in, look_up}
 use Rattle.tables.proofs.Encoding.{length_names_from, get_or_names_from}
-use Rattle.copying.proofs.Putting.{Left, left_start, left_room, left_on, left_byte, left_as, left_none, left_end}
+use Rattle.copying.proofs.Putting.{put_none}
+use Rattle.words.specs.Row.{row}
+use Rattle.listing.specs.Text.{Room, Puts}
+use Rattle.listing.specs.Names.{spelt, held}
+use Rattle.listing.specs.declared.names.Names.{Names}
+use Rattle.listing.specs.declared.text.Text.{Text}
+use Rattle.listing.proofs.Texts.{puts_on}
 use Rattle.solving.specs.Listing.{held_names}
 
 -- numbers that are no members are passed over
@@ -116,53 +122,110 @@ module _ (area : Bytes) (n m : ℕ) (f : Set) (h : n ≤ m) where
       let e : n - a ≡ 0 = omega arith in
       ap (λ (k : ℕ). joined (map (λ b. get_or (names_in area n) b []) (members k f a))) e
 
+-- of the whole text, put from x on, `rest` is left to put after y
+pub record Left (x : Text) (whole rest : Bytes) (y : Text) : Type 0 where
+  pub done : Bytes
+  pub puts : Puts x done y
+  pub all : done ++ rest ≡ whole
+
+-- a part of what is left is put
+left_on : {x y z : Text} {whole rest s more : Bytes} → Left x whole rest y → rest ≡ s ++ more → Puts y s z → Left x whole more z
+left_on {s = s} {more = more} l e p =
+    record {
+      done = l.done ++ s;
+      puts = puts_on l.puts p;
+      all = append_assoc l.done s more ∙ ap (λ (r : Bytes). l.done ++ r) (sym e) ∙ l.all;
+    }
+
 -- line after line
-module _ (area : Bytes) (n m : ℕ) (f : Set) (h : n ≤ m) (old : Bytes) (at : ℕ) (fits : at + length (joined (held_names (names_in area n) f)) ≤ length old) where
-  abbrev Rest : ℕ → Bytes → ℕ → Type 0
-  Rest a text o = Left old at (joined (held_names (names_in area n) f)) (lines_from area n f a) text o
+module _ (book : Names) (x : Text) where
+  abbrev whole : Bytes
+  whole = joined (held_names (spelt book) (held book))
+
+  abbrev lines : ℕ → Bytes
+  lines = lines_from book.spellings.now book.n (held book)
+
+  abbrev atoms : ℕ
+  atoms = row_words * word_bits
+
+  few : book.n ≤ atoms
+  few = let l = book.long.0 in omega arith
+
+  -- a walk over the words of the model area
+  abbrev Next : ℕ → ℕ → Type 0
+  Next i a = a ≡ next (length (take row_words book.model.now) * word_bits - i) (row (take row_words book.model.now)) i
+
+  -- goes over all atoms
+  stop : (i a : ℕ) → Next i a → Stop atoms (held book) i a
+  stop i a e =
+      e ∙ ap (λ (k : ℕ). next (k * word_bits - i) (held book) i) (length-take-le row_words book.model.now book.long.2)
+
+  -- the invariant: the lines from the stop a on are left to put
+  pub record Onward (a : ℕ) (y : Text) : Type 0 where
+    pub within : a ≤ atoms
+    pub member : a < atoms → held book a ≡ true
+    pub left : Left x whole (lines a) y
 
   -- before the first
-  pub names_start : (a : ℕ) → Stop m f 0 a → Rest a old at
-  names_start a e = left_as old at _ fits _ old at (left_start old at _ fits) _ (lines_start area n m f h a e)
+  pub onward_start : (a : ℕ) → Next 0 a → Onward a x
+  onward_start a e =
+      let q : Stop atoms (held book) 0 a = stop 0 a e in
+      record {
+        within = (walk_range atoms 0 a (held book) (omega arith) q).1;
+        member = stop_in book.spellings.now book.n atoms (held book) few 0 a (omega arith) q;
+        left =
+            record {
+              done = [];
+              puts = record { end = omega arith; area = sym (put_none x.end x.area.now); long = refl; same = refl };
+              all = sym (lines_start book.spellings.now book.n atoms (held book) few a q);
+            };
+      }
 
-  module _ (a : ℕ) (text : Bytes) (o : ℕ) (s : Rest a text o) where
+  module _ {a : ℕ} {y : Text} (s : Onward a y) where
     -- past the last all are put
-    pub names_done : n ≤ a → text ≡ put at (joined (held_names (names_in area n) f)) old
-    names_done l = left_none old at _ fits _ text o s (lines_end area n m f h a l)
-
-    -- and the place is past them
-    pub names_next : n ≤ a → o ≡ at + length (joined (held_names (names_in area n) f))
-    names_next l = left_end old at _ fits _ text o s (lines_end area n m f h a l)
+    pub onward_end : book.n ≤ a → Puts x whole y
+    onward_end l =
+        let e : lines a ≡ [] = lines_end book.spellings.now book.n atoms (held book) few a l in
+        let q : s.left.done ≡ whole = sym (append-nil s.left.done) ∙ ap (λ (r : Bytes). s.left.done ++ r) (sym e) ∙ s.left.all in
+        subst (λ (w : Bytes). Puts x w y) q s.left.puts
 
     -- a name w is held
-    module _ (l : a < n) (t : f a ≡ true) (g : n ≤ names) (p : name_area ≤ length area) (w : Bytes) (e : w ≡ look_up area n a) where
+    module _ (room : Room x whole) (l : a < book.n) {w : Bytes} (e : w ≡ look_up book.spellings.now book.n a) where
       -- its line, and the lines from the next stop on
-      line : (r : ℕ) → Stop m f (a + 1) r → lines_from area n f a ≡ w ++ (line_end ∷ lines_from area n f r)
+      line : (r : ℕ) → Stop atoms (held book) (a + 1) r → lines a ≡ w ++ (line_end ∷ lines r)
       line r q =
-          lines_on area n m f h a r l t q
-          ∙ ap (λ (x : Bytes). x ++ (line_end ∷ lines_from area n f r)) (sym (e ∙ named area n a l g p))
+          lines_on book.spellings.now book.n atoms (held book) few a r l (s.member (omega (arith, few))) q
+          ∙ ap (λ (t : Bytes). t ++ (line_end ∷ lines r)) (sym (e ∙ named book.spellings.now book.n a l book.long.0 book.long.1))
 
       -- there is room for it
-      pub name_room : o + length w ≤ length text
-      name_room =
-          let r : ℕ = next (m - (a + 1)) f (a + 1) in
+      pub line_room : y.end + length w + 1 ≤ length y.area.now
+      line_room =
+          let r : ℕ = next (atoms - (a + 1)) (held book) (a + 1) in
+          let p = s.left.puts in
           omega (
             arith,
-            left_room old at _ fits _ text o s,
+            p.end,
+            p.long,
+            room,
+            ap length s.left.all,
+            length-append s.left.done (lines a),
             ap length (line r refl),
-            length-append w (line_end ∷ lines_from area n f r),
+            length-append w (line_end ∷ lines r),
           )
 
-      -- it is put, up to k
-      module _ (new : Bytes) (k : ℕ) (u : new ≡ put o w text) (v : k ≡ o + length w) where
-        -- what is left is its line end and the lines from the next stop r on
-        ended : (r : ℕ) → Stop m f (a + 1) r → Left old at (joined (held_names (names_in area n) f)) (line_end ∷ lines_from area n f r) new k
-        ended r q = left_on old at _ fits _ text o s w (line_end ∷ lines_from area n f r) new k (line r q) u v
+      -- it is put with its end
+      pub onward : {z : Text} {v : Text} → Puts y w z → Puts z (line_end ∷ []) v → (r : ℕ) → Next (a + 1) r → Onward r v
+      onward p q r n =
+          let k : Stop atoms (held book) (a + 1) r = stop (a + 1) r n in
+          let b : a + 1 ≤ atoms = omega (arith, few) in
+          record {
+            within = (walk_range atoms (a + 1) r (held book) b k).1;
+            member = stop_in book.spellings.now book.n atoms (held book) few (a + 1) r b k;
+            left = left_on (left_on s.left (line r k) p) refl q;
+          }
 
-        -- there is room for the line end
-        pub end_slot : k < length new
-        end_slot = omega (arith, left_room old at _ fits _ new k (ended (next (m - (a + 1)) f (a + 1)) refl))
-
-        -- which is put
-        pub names_on_lem : (r : ℕ) → Stop m f (a + 1) r → Rest r (set new k line_end) (k + 1)
-        names_on_lem r q = left_byte old at _ fits _ new k (ended r q) line_end _ refl
+      -- and the walk goes up
+      pub onward_smaller : (r : ℕ) → Next (a + 1) r → atoms - r < atoms - a
+      onward_smaller r n =
+          let w = walk_range atoms (a + 1) r (held book) (omega (arith, few)) (stop (a + 1) r n) in
+          omega (arith, w.0, few)

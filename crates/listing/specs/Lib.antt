@@ -1,1 +1,3 @@
 pub mod Write
+pub mod Text
+pub mod Names

@@ -1,43 +1,58 @@
-// The held names: those below n whose bits are set in the model area. Bits from n on are helpers.
-ghost use Rattle.std.specs.Prelude.{◌≡◌, ◌+◌, ◌≤◌, length};
+// The names of a book, and those that are held: below n, with their bits set in the model area. Bits from n on are helpers.
+ghost use Rattle.std.specs.Prelude.{◌≡◌, ◌≤◌, length};
 ghost use Rattle.limits.specs.Book.{names, row_words, name_area};
 ghost use Rattle.sets.specs.Set.{count};
-ghost use Rattle.areas.specs.Area.{put};
 ghost use Rattle.grammar.specs.Grammar.{joined};
-ghost use Rattle.tables.specs.Areas.{names_in};
 ghost use Rattle.systems.specs.Rounds.{model_in};
 ghost use Rattle.solving.specs.Listing.{held_names};
 
+use crate::text::Text;
 use lexicon::look_up::look_up;
 use limits::Book;
 use scan::cursor::Cursor;
 
-// How many names are held: whole words, and the low bits of the word that n stands in.
+// How many of the first n names are held: whole words, and the low bits of the word that n stands in.
 pub fn count_held(model: &[u64], n: usize) -> usize
     requires { (n ≤ names) × (row_words ≤ length model.now) }
     ensures { result ≡ count n (model_in model.now) }
 {
     let k = Book::word_of(n);
-    let whole = rows::read::count(model, 0, k);
+    let whole = rows::row::count(&model[..k]);
     let low = model[k] % (1 << Book::bit_of(n));
-    whole + u64::count_ones(low) as usize
+    whole + low.count_ones() as usize
 }
 
-// Puts each held name with its line end, and returns the place after them.
-pub fn put_names(spellings: &[u8], n: usize, model: &[u64], text: &mut [u8], at: usize) -> usize
-    requires n_le_names { (n ≤ names) × (name_area ≤ length spellings.now) × (row_words ≤ length model.now) }
-    requires room { at + length (joined (held_names (names_in spellings.now n) (model_in model.now))) ≤ length text.old }
-    ensures next { result ≡ at + length (joined (held_names (names_in spellings.now n) (model_in model.now))) }
-    ensures text { text.new
-        ≡ put at (joined (held_names (names_in spellings.now n) (model_in model.now))) text.old }
-{
-    let mut o = at;
-    let mut a = rows::walk::next(model, 0, Book::ROW_WORDS, 0);
-    while a < n {
-        let end = copying::copy(look_up(spellings, n, a), text, o);
-        text[end] = Cursor::LINE_END;
-        o = end + 1;
-        a = rows::walk::next(model, 0, Book::ROW_WORDS, a + 1);
+// The n names in a name area, and a model area.
+#[derive(Drop)]
+pub struct Names<'a> {
+    pub spellings: &'a [u8],
+    pub n: usize,
+    pub model: &'a [u64],
+    ghost long: { (n ≤ names) × (name_area ≤ length spellings.now) × (row_words ≤ length model.now) },
+}
+
+impl<'a> Names<'a> {
+    ghost use Rattle.listing.specs.Names.{spelt, held};
+    ghost use Rattle.listing.specs.Text.{Room, Puts};
+
+    // How many names are held.
+    pub fn count_held(&self) -> usize
+        ensures { result ≡ count self.now.n (held self.now) }
+    {
+        count_held(self.model, self.n)
     }
-    o
+
+    // Puts each held name with its line end.
+    pub fn put(&self, text: &mut Text<'_>)
+        requires { Room text.old (joined (held_names (spelt self.now) (held self.now))) }
+        ensures { Puts text.old (joined (held_names (spelt self.now) (held self.now))) text.new }
+    {
+        let members = &self.model[..Book::ROW_WORDS];
+        let mut a = rows::row::next(members, 0);
+        while a < self.n {
+            text.put(look_up(self.spellings, self.n, a));
+            text.put_byte(Cursor::LINE_END);
+            a = rows::row::next(members, a + 1);
+        }
+    }
 }

@@ -13,8 +13,9 @@ use Rattle.limits.specs.Book.{atoms, rules, word_bits, row_words, body_words}
 use Rattle.sets.specs.Set.{Set, pick, exists, count, only, union}
 use Rattle.sets.proofs.Logic.{pick_true, pick_false}
 use Rattle.sets.proofs.Counting.{count_in, count_out, count_le}
-use Rattle.areas.specs.Area.{part, put}
-use Rattle.words.specs.Row.{row, pack}
+use Rattle.areas.specs.Area.{part}
+use Rattle.areas.proofs.Parts.{part_whole}
+use Rattle.words.specs.Row.{row}
 use Rattle.words.proofs.Rows.{length_pack}
 use Rattle.program.specs.Program.{Program, WellFormed, size, head_at}
 use Rattle.program.specs.Standard as Standard
@@ -103,10 +104,10 @@ module _ {tables : RuleTables} {counts : Counts} {marked : List ℕ} {o : RowAre
   marks_long = ap length ready.marks ∙ length_pack body_words (several_names heads m)
 
   -- before the first rule
-  pub placed_start : Placed p 0 n 0 all₀ any₀ model₀ all₀ any₀ model₀
-  placed_start = record {
+  pub placed_start : {helper : ℕ} → helper ≡ n → Placed p 0 helper 0 all₀ any₀ model₀ all₀ any₀ model₀
+  placed_start e = record {
     in_rules = omega arith;
-    next = unfold Standard.helper count in omega arith;
+    next = unfold Standard.helper count in e ∙ omega arith;
     counted = unfold count in refl;
     all_long = refl;
     any_long = refl;
@@ -132,10 +133,16 @@ module _ {tables : RuleTables} {counts : Counts} {marked : List ℕ} {o : RowAre
     head_atom = let b : n ≤ (standard p).atoms = names_below p in omega (arith, head_small)
 
     -- the test for a helper
-    several_test : row (part 0 body_words marked) (get_or heads j 0) ≡ several p j
-    several_test = row_rule tables counts ready.formed marked ready.marks j l
+    several_test : row marked (get_or heads j 0) ≡ several p j
+    several_test =
+        ap (λ (ws : List ℕ). row ws (get_or heads j 0)) (sym (part_whole body_words marked marks_long))
+        ∙ row_rule tables counts ready.formed marked ready.marks j l
 
-    module _ {b : Bool} (test : b ≡ row (part 0 body_words marked) (get_or heads j 0)) where
+    -- of the head that was read
+    module _ {head : ℕ} {b : Bool} (read : head ≡ get_or heads j 0) (found : b ≡ row marked head) where
+      test : b ≡ row marked (get_or heads j 0)
+      test = found ∙ ap (row marked) read
+
       -- the helper is an atom
       pub helper_small : b ≡ true → helper < atoms
       helper_small t =
@@ -144,15 +151,14 @@ module _ {tables : RuleTables} {counts : Counts} {marked : List ℕ} {o : RowAre
 
       module _ {home helper' : ℕ} {any' : List ℕ} where
         -- it joins the row of the head
-        pub with_helper : {at : ℕ} {new : List ℕ} → b ≡ true → at ≡ get_or heads j 0 * row_words
-            → new ≡ put at (pack row_words (union (row (part at row_words any)) (only helper))) any
+        pub with_helper : {new : List ℕ} → b ≡ true → new ≡ with_row head (union (row_in row_words any head) (only helper)) any
             → any' ≡ new → helper' ≡ helper + 1 → home ≡ helper → Housed p j home helper' any₀ any'
-        with_helper t e q a' h' d =
+        with_helper t q a' h' d =
             let s : several p j ≡ true = sym several_test ∙ sym test ∙ t in
             let h : head_at p j ≡ get_or heads j 0 = head_in tables counts j l in
             let rows : any' ≡ with_rows p (any_up_to p (suc j)) any₀ =
             rows_joined p ready.few any₀ any (any_up_to p j) inv.any_rows (get_or heads j 0) helper any' (any_up_to p (suc j)) head_atom
-            (a' ∙ q ∙ ap (λ (k : ℕ). put k (pack row_words (union (row (part k row_words any)) (only helper))) any) e)
+            (a' ∙ q ∙ ap (λ (k : ℕ). with_row k (union (row_in row_words any k) (only helper)) any) read)
             (λ a. subst (λ (x : ℕ). any_up_to p (suc j) x a ≡ union (any_up_to p j x) (only helper) a) h
             (any_head_lem p j s a ∙ ap (λ (x : ℕ). union (any_up_to p j (head_at p j)) (only x) a) (sym inv.next)))
             (λ k d a. any_other p j k (λ r. d (sym h ∙ r)) a)
@@ -164,10 +170,10 @@ module _ {tables : RuleTables} {counts : Counts} {marked : List ℕ} {o : RowAre
             }
 
         -- without one the head is the home
-        pub without_helper : b ≡ false → any' ≡ any → helper' ≡ helper → home ≡ get_or heads j 0 → Housed p j home helper' any₀ any'
+        pub without_helper : b ≡ false → any' ≡ any → helper' ≡ helper → home ≡ head → Housed p j home helper' any₀ any'
         without_helper t a' h' d =
             let s : several p j ≡ false = sym several_test ∙ sym test ∙ t in record {
-              here = d ∙ sym (home_single p j s ∙ head_in tables counts j l);
+              here = d ∙ read ∙ sym (home_single p j s ∙ head_in tables counts j l);
               next = h' ∙ inv.next ∙ sym (helper_same p j s);
               any_long = ap length a' ∙ inv.any_long;
               any_rows = rows_kept p ready.few any₀ any' (any_up_to p j) (a' ∙ inv.any_rows) (any_up_to p (suc j)) (any_same p j s);
@@ -178,13 +184,21 @@ module _ {tables : RuleTables} {counts : Counts} {marked : List ℕ} {o : RowAre
       pub home_small : home < atoms
       home_small = let h : Standard.home p j < (standard p).atoms = home_below p formed j in_size in omega (arith, ready.few, housed.here)
 
-      module _ {b : Bool} (test : b ≡ exists (body_words * word_bits) (row_in body_words bodies j)) {all' model' : List ℕ}
-          (written : all' ≡ pick b (with_row home (row_in body_words bodies j) all) all)
+      -- of the body that was read
+      module _ {body : List ℕ} {b : Bool} (read : body ≡ part (j * body_words) body_words bodies)
+          (found : b ≡ exists (body_words * word_bits) (row body)) {all' model' : List ℕ}
+          (put_in : all' ≡ pick b (with_row home (row body) all) all)
           (joined : model' ≡ pick b model (with_model (union (model_in model) (only home)) model)) where
+        filled_test : b ≡ exists (body_words * word_bits) (row_in body_words bodies j)
+        filled_test = found ∙ ap (λ (ws : List ℕ). exists (body_words * word_bits) (row ws)) read
+
+        written : all' ≡ pick b (with_row home (row_in body_words bodies j) all) all
+        written = put_in ∙ ap (λ (ws : List ℕ). pick b (with_row home (row ws) all) all) read
+
         body_test : b ≡ has_body p j
         unfolding has_body
         body_test =
-            test
+            filled_test
             ∙ exists_fewer (body_words * word_bits) n (row_in body_words bodies j) few_names (formed_entry_lem tables counts ready.formed j l).1
             ∙ ap (exists n) (sym (body_in tables counts j l))
 

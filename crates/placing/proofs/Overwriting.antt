@@ -1,77 +1,91 @@
 -- Rows that are cleared and then written, areas that are cleared past their used part, and one row changed among the rows of a program.
 -- Assumes nothing.
-use mathlib.Core.Path.{◌≡◌, refl, sym, ap, ap₂, ◌∙◌}
-use mathlib.Core.Bool.{Bool, true, false, not, ◌||◌}
-use mathlib.Core.List.{List, ◌++◌, append_assoc}
+use mathlib.Core.Path.{◌≡◌, sym, ap, ap₂, ◌∙◌}
+use mathlib.Core.Bool.{Bool, ◌||◌}
+use mathlib.Core.List.{List, ◌++◌}
 use Prim.Native.Nat.{ℕ, ◌+◌, ◌-◌, ◌*◌, ◌≤◌, ◌<◌}
 use native.Mathlib.Omega.{arith}
-use borrow.Author.Tests.{ne_eqb, eqb-true, eqb-false}
+use borrow.Author.Tests.{eqb-true, eqb-false}
 use lib.Dec.{eqb}
-use lib.ListN.{length, take, drop, replicate, length-replicate, replicate-append-replicate}
-use lib.Seq.{length-take-le, take_at, drop_at}
-use Rattle.limits.specs.Book.{atoms, word_bits, row_words, body_words, row_area}
-use Rattle.sets.specs.Set.{Set, pick, exists, only, union, empty_set}
+use lib.ListN.{length, take, drop, replicate, length-replicate}
+use Rattle.std.proofs.lemmas.List.{drop-replicate}
+use lib.Seq.{length-take-le}
+use Rattle.limits.specs.Book.{atoms, word_bits, row_words, row_area}
+use Rattle.sets.specs.Set.{Set, pick, only, union, empty_set}
 use Rattle.sets.proofs.Logic.{either, pick_true, pick_false}
 use Rattle.areas.specs.Area.{part, put, begun, filled, cleared, Clear}
 use Rattle.words.specs.Row.{row, pack}
-use Rattle.words.proofs.Rows.{length_pack, pack_same, row_zero}
-use Rattle.areas.proofs.Parts.{put_over}
+use borrow.Rule.Slice.PartMut.{mid_of, put_mid, mid_len, Post-is}
+use Rattle.words.proofs.Rows.{length_pack, pack_same, pack_row, row_past, row_zero}
+use Rattle.rows.proofs.Reading.{Known, in_range}
 use Rattle.areas.proofs.Begun.{length_begun}
 use Rattle.areas.proofs.Filled.{front_cleared}
 use Rattle.program.specs.Program.{Program}
 use Rattle.program.specs.Standard.{standard}
 use Rattle.systems.specs.Rows.{row_in, packed}
-use Rattle.systems.proofs.Packed.{length_packed, packed_same, packed_empty, wide_pack, row_in_past, row_begun, rows_next, put_row}
+use Rattle.systems.specs.Rounds.{with_model}
+use Rattle.systems.proofs.Packed.{length_packed, packed_same, packed_empty, wide_pack, row_begun, rows_next, put_row}
 use Rattle.systems.proofs.Clearing.{tail_cleared, tail_clear}
 use Rattle.placing.specs.Partial.{with_row, with_rows}
 
--- a row of v + w words at `at`, cleared
-module _ (at v w : ℕ) (area : List ℕ) (h : at + (v + w) ≤ length area) where
-  -- past its first v words
-  rest : List ℕ
-  rest = replicate w 0 ++ drop (at + (v + w)) area
+-- A row of zeros in which one atom joins is that atom alone.
+pub alone_row : (i : ℕ) (old zeros new : List ℕ) → zeros ≡ replicate (length old) 0 → new ≡ pack (length zeros) (union (row zeros) (only i))
+    → new ≡ pack (length old) (only i)
+alone_row i old zeros new e q =
+    q ∙ ap (λ (k : ℕ). pack k (union (row zeros) (only i))) (ap length e ∙ length-replicate (length old) 0)
+    ∙ pack_same (length old) (union (row zeros) (only i)) (only i)
+    (λ a l. ap (λ (ws : List ℕ). row ws a || eqb i a) e ∙ ap (λ (b : Bool). b || eqb i a) (row_zero (length old) a))
 
-  before : length (take at area) ≡ at
-  before = length-take-le at area (omega arith)
+-- A row of w words whose first are those of a body, and the others zero, is the body's.
+pub widened_row : (w : ℕ) (body : List ℕ) → Known body → length body ≤ w → body ++ replicate (w - length body) 0 ≡ pack w (row body)
+widened_row w body known l =
+    let n : length body + (w - length body) ≡ w = omega arith in
+    ap (λ (ws : List ℕ). ws ++ replicate (w - length body) 0) (sym (pack_row body (in_range body known)))
+    ∙ sym (wide_pack (length body) (w - length body) (row body) (row_past body))
+    ∙ ap (λ (k : ℕ). pack k (row body)) n
 
-  zeros : cleared at (at + (v + w)) area ≡ take at area ++ (replicate v 0 ++ rest)
-  unfolding rest
-  zeros =
-      let q : at + (v + w) - at ≡ v + w = omega arith in
-      ap (λ (zs : List ℕ). take at area ++ (zs ++ drop (at + (v + w)) area))
-      (ap (λ (k : ℕ). replicate k 0) q ∙ sym (replicate-append-replicate v w 0))
-      ∙ ap (λ (zs : List ℕ). take at area ++ zs) (append_assoc (replicate v 0) (replicate w 0) (drop (at + (v + w)) area))
+pub widened : (old zeros first body : List ℕ) → Known body → length body ≤ length old → zeros ≡ replicate (length old) 0 → first ≡ body
+    → first ++ drop (length body) zeros ≡ pack (length old) (row body)
+widened old zeros first body known l e f =
+    ap₂ (λ (xs zs : List ℕ). xs ++ drop (length body) zs) f e
+    ∙ ap (λ (zs : List ℕ). body ++ zs) (drop-replicate (length body) (length old) 0)
+    ∙ widened_row (length old) body known l
 
-  -- holds nothing
-  nothing : (a : ℕ) → row (part at v (cleared at (at + (v + w)) area)) a ≡ false
-  nothing a =
-      ap (λ (zs : List ℕ). row zs a)
-      (ap (part at v) zeros ∙ ap (take v) (drop_at (take at area) (replicate v 0 ++ rest) at before)
-      ∙ take_at (replicate v 0) rest v (length-replicate v 0))
-      ∙ row_zero v a
+-- A row that was lent and comes back with a set stands in its place.
+module _ (i at : ℕ) (area : List ℕ) (h : i < atoms) (l : row_area ≤ length area) (e : at ≡ i * row_words) where
+  lent_long : length (mid_of at (at + row_words - at) area) ≡ row_words
+  lent_long = mid_len at (at + row_words) area (omega arith) ∙ omega arith
 
-  -- with a set that joins its first v words, and has no member past them, it is that set packed
-  pub fresh_row : (f : Set) (mid new : List ℕ) → ((a : ℕ) → v * word_bits ≤ a → f a ≡ false) → mid ≡ cleared at (at + (v + w)) area
-      → new ≡ put at (pack v (union (row (part at v mid)) f)) mid → new ≡ put at (pack (v + w) f) area
-  unfolding rest
-  fresh_row f mid new low p q =
-      let one : pack v (union (row (part at v (cleared at (at + (v + w)) area))) f) ≡ pack v f =
-      pack_same v (union (row (part at v (cleared at (at + (v + w)) area))) f) f (λ a l. ap (λ (b : Bool). b || f a) (nothing a))
-      in
-      q ∙ ap (λ (xs : List ℕ). put at (pack v (union (row (part at v xs)) f)) xs) p
-      ∙ ap₂ (λ (zs xs : List ℕ). put at zs xs) one zeros
-      ∙ put_over at (take at area) (replicate v 0) (pack v f) rest before (length_pack v f ∙ sym (length-replicate v 0))
-      ∙ ap (λ (zs : List ℕ). take at area ++ zs) (sym (append_assoc (pack v f) (replicate w 0) (drop (at + (v + w)) area)))
-      ∙ ap₂ (λ (zs : List ℕ) (k : ℕ). take at area ++ (zs ++ drop (at + k) area)) (sym (wide_pack v w f low)) (sym (length_pack (v + w) f))
+  pub row_back : (f : Set) (ys : List ℕ) → ys ≡ pack (length (mid_of at (at + row_words - at) area)) f
+      → put_mid at (at + row_words - at) area ys ≡ with_row i f area
+  row_back f ys q =
+      let n : ys ≡ pack row_words f = q ∙ ap (λ (k : ℕ). pack k f) lent_long in
+      ap (λ (zs : List ℕ). take at area ++ (ys ++ zs)) (Post-is at (at + row_words) area (omega arith))
+      ∙ ap (λ (zs : List ℕ). take at area ++ (zs ++ drop (at + row_words) area)) n
+      ∙ ap (λ (k : ℕ). take at area ++ (pack row_words f ++ drop (at + k) area)) (sym (length_pack row_words f))
+      ∙ ap (λ (k : ℕ). put k (pack row_words f) area) e
+
+  -- one in which an atom has joined
+  pub row_joined : (a : ℕ) (ys : List ℕ)
+      → ys ≡ pack (length (mid_of at (at + row_words - at) area)) (union (row (mid_of at (at + row_words - at) area)) (only a))
+      → put_mid at (at + row_words - at) area ys ≡ with_row i (union (row_in row_words area i) (only a)) area
+  row_joined a ys q =
+      let n : at + row_words - at ≡ row_words = omega arith in
+      row_back (union (row (mid_of at (at + row_words - at) area)) (only a)) ys q
+      ∙ ap₂ (λ (k w : ℕ). with_row i (union (row (part k w area)) (only a)) area) e n
+
+-- the same for the set in a model area
+pub model_back : (f : Set) (model ys : List ℕ) → row_words ≤ length model → ys ≡ pack (length (take row_words model)) f
+    → ys ++ drop row_words model ≡ with_model f model
+unfolding with_model begun
+model_back f model ys l q =
+    let n : ys ≡ pack row_words f = q ∙ ap (λ (k : ℕ). pack k f) (length-take-le row_words model l) in
+    ap (λ (zs : List ℕ). zs ++ drop row_words model) n ∙ ap (λ (k : ℕ). pack row_words f ++ drop k model) (sym (length_pack row_words f))
 
 -- one row more that is its own atom alone
-pub alone_next : (i at : ℕ) (old area mid new : List ℕ) → i < atoms → row_area ≤ length area → at ≡ i * row_words
-    → area ≡ begun (packed row_words i only) old → mid ≡ cleared at (at + row_words) area
-    → new ≡ put at (pack row_words (union (row (part at row_words mid)) (only i))) mid → new ≡ begun (packed row_words (i + 1) only) old
-alone_next i at old area mid new l h e q p r =
-    rows_next row_words only old area i q new
-    (fresh_row at row_words 0 area (omega arith) (only i) mid new (λ a b. ne_eqb i a (λ (z : i ≡ a). omega arith)) p r
-    ∙ ap (λ (k : ℕ). put k (pack row_words (only i)) area) e)
+pub alone_next : (i : ℕ) (old area new : List ℕ) → area ≡ begun (packed row_words i only) old → new ≡ with_row i (only i) area
+    → new ≡ begun (packed row_words (i + 1) only) old
+alone_next i old area new e q = rows_next row_words only old area i e new q
 
 -- the "all" rows alone, and zeros past them
 pub all_begun : (k u : ℕ) (old mid new : List ℕ) → k ≤ atoms → u ≡ k * row_words → mid ≡ begun (packed row_words k only) old → new ≡ cleared u row_area mid
@@ -99,34 +113,6 @@ pub any_clear : (k u : ℕ) (old mid : List ℕ) → k ≤ atoms → u ≡ k * r
 any_clear k u old mid l e p =
     let n : length (replicate {A = ℕ} u 0) ≡ u = length-replicate u 0 in
     tail_clear row_area u (replicate u 0) old mid (sym n) (omega arith) (front_cleared u old mid p)
-
--- whether rule j has a body, `none` being the test of its words
-module _ (bodies : List ℕ) (j from : ℕ) (none : Bool) (e : from ≡ j * body_words)
-    (q : none ≡ not (exists (body_words * word_bits) (row (part from body_words bodies)))) where
-  at_home : not none ≡ exists (body_words * word_bits) (row_in body_words bodies j)
-  at_home =
-      ap not q ∙ not-not (exists (body_words * word_bits) (row (part from body_words bodies)))
-      ∙ ap (λ (k : ℕ). exists (body_words * word_bits) (row (part k body_words bodies))) e
-    where
-      not-not : (b : Bool) → not (not b) ≡ b
-      not-not true = refl
-      not-not false = refl
-
-  pub body_none : none ≡ true → false ≡ exists (body_words * word_bits) (row_in body_words bodies j)
-  body_none t = ap not (sym t) ∙ at_home
-
-  pub body_some : none ≡ false → true ≡ exists (body_words * word_bits) (row_in body_words bodies j)
-  body_some t = ap not (sym t) ∙ at_home
-
--- its body in its home's row
-pub body_row : (bodies : List ℕ) (j from home at : ℕ) (area mid new : List ℕ) → home < atoms → row_area ≤ length area
-    → from ≡ j * body_words → at ≡ home * row_words → mid ≡ cleared at (at + row_words) area
-    → new ≡ put at (pack body_words (union (row (part at body_words mid)) (row (part from body_words bodies)))) mid
-    → new ≡ with_row home (row_in body_words bodies j) area
-body_row bodies j from home at area mid new l h e q p r =
-    fresh_row at body_words (row_words - body_words) area (omega arith) (row_in body_words bodies j) mid new (row_in_past body_words bodies j) p
-    (r ∙ ap (λ (k : ℕ). put at (pack body_words (union (row (part at body_words mid)) (row (part k body_words bodies)))) mid) e)
-    ∙ ap (λ (k : ℕ). put k (pack row_words (row_in body_words bodies j)) area) q
 
 -- Areas with the rows of a program's atoms.
 

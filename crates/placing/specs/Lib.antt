@@ -1,1 +1,2 @@
 pub mod Partial
+pub mod Same

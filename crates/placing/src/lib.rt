@@ -2,102 +2,132 @@
 #![tactic(auto)]
 
 ghost use Rattle.std.specs.Prelude.{◌≡◌, true, ◌*◌, ◌<◌, ◌≤◌, length};
-ghost use Rattle.limits.specs.Book.{rules, atoms, word_bits, row_words, body_words, body_area, row_area};
+ghost use Rattle.limits.specs.Book.{atoms, word_bits, row_words, body_words, row_area};
 ghost use Rattle.sets.specs.Set.{pick, exists, only, union, empty_set};
 ghost use Rattle.tables.specs.Areas.{program_in};
 ghost use Rattle.areas.specs.Area.{begun, filled, Clear};
+ghost use Rattle.words.specs.Row.{row, pack};
 ghost use Rattle.systems.specs.Rows.{row_in, packed};
 ghost use Rattle.systems.specs.Rounds.{model_in, with_model};
 ghost use Rattle.placing.specs.Partial.{with_row, PlacingReady, Filled};
 
 use limits::Book;
+use rows::clear::{clear, clear_stale};
+use rows::row;
+use ways::Rules;
+
+// The row of atom i alone.
+fn alone(words: &mut [u64], i: usize)
+    requires { i < length words.old * word_bits }
+    ensures { words.new ≡ pack (length words.old) (only i) }
+{
+    words.fill(0);
+    row::insert(words, i);
+}
+
+// The row of a body: its words, and zeros past them.
+fn widen(to: &mut [u64], body: &[u64])
+    requires { length body.now ≤ length to.old }
+    ensures { to.new ≡ pack (length to.old) (row body.now) }
+{
+    to.fill(0);
+    to[..body.len()].copy_from_slice(body);
+}
 
 // Each of the first `count` rows is its own atom alone.
-fn alone(all: &mut [u64], count: usize)
+fn all_alone(all: &mut [u64], count: usize)
     requires { (count ≤ atoms) × (row_area ≤ length all.old) }
     ensures { all.new ≡ begun (packed row_words count only) all.old }
 {
-    let mut i = 0;
-    while i < count {
+    for i in 0..count {
         let at = Book::row_at(i);
-        rows::clear::clear_tail64(all, at, at + Book::ROW_WORDS);
-        rows::write::insert(all, at, Book::ROW_WORDS, i);
-        i += 1;
+        alone(&mut all[at..at + Book::ROW_WORDS], i);
     }
 }
 
-// The rows of `count` atoms before any rule is placed; each area is cleared from its first unused row to its end, unless it is known to be
-// clear (fresh).
-pub fn begin(count: usize, all: &mut [u64], any: &mut [u64], model: &mut [u64], fresh: bool)
-    requires count_le_atoms { (count ≤ atoms) × (row_area ≤ length all.old) × (row_area ≤ length any.old) × (row_words ≤ length model.old) }
-    requires clear { fresh ≡ true → Clear row_area all.old × Clear row_area any.old }
-    ensures all { all.new ≡ filled row_area (packed row_words count only) all.old }
-    ensures any { any.new ≡ filled row_area (packed row_words count (λ i. empty_set)) any.old }
-    ensures model { model.new ≡ with_model empty_set model.old }
+// Atom a joins row i.
+fn join(area: &mut [u64], i: usize, a: usize)
+    requires { (i < atoms) × (a < atoms) × (row_area ≤ length area.old) }
+    ensures { area.new ≡ with_row i (union (row_in row_words area.old i) (only a)) area.old }
 {
-    let unused = Book::row_at(count);
-    alone(all, count);
-    rows::clear::clear_stale64(all, unused, Book::ROW_AREA, fresh);
-    rows::clear::clear_tail64(any, 0, unused);
-    rows::clear::clear_stale64(any, unused, Book::ROW_AREA, fresh);
-    rows::clear::clear_tail64(model, 0, Book::ROW_WORDS);
+    let at = Book::row_at(i);
+    row::insert(&mut area[at..at + Book::ROW_WORDS], a);
 }
 
-// Rule j at its home: its body becomes the home's row; where it has none, the home joins the start set. Returns whether it has a body.
-fn place(bodies: &[u64], j: usize, home: usize, all: &mut [u64], model: &mut [u64]) -> bool
-    requires { (j < rules) × (home < atoms) × (body_area ≤ length bodies.now) × (row_area ≤ length all.old)
-        × (row_words ≤ length model.old) }
-    ensures body { result ≡ exists (body_words * word_bits) (row_in body_words bodies.now j) }
-    ensures all { all.new
-        ≡ pick result (with_row home (row_in body_words bodies.now j) all.old) all.old }
-    ensures model { model.new
-        ≡ pick result model.old (with_model (union (model_in model.old) (only home)) model.old) }
-{
-    let from = Book::body_at(j);
-    if rows::read::empty(bodies, from, Book::BODY_WORDS) {
-        rows::write::insert(model, 0, Book::ROW_WORDS, home);
-        return false;
+// The areas that a system's rows and its start set are written into, lent together.
+#[derive(Drop)]
+pub struct Rows<'a> {
+    pub all: &'a mut [u64],
+    pub any: &'a mut [u64],
+    pub model: &'a mut [u64],
+    ghost long: { (row_area ≤ length all.now) × (row_area ≤ length any.now) × (row_words ≤ length model.now) },
+}
+
+impl<'a> Rows<'a> {
+    ghost use Rattle.placing.specs.Same.{Same};
+
+    // The rows of `count` atoms before any rule is placed; each area is cleared from its first unused row to its end, unless it is known to be
+    // clear (fresh).
+    pub fn begin(&mut self, count: usize, fresh: bool)
+        requires few { count ≤ atoms }
+        requires clear { fresh ≡ true → Clear row_area self.old.all.now × Clear row_area self.old.any.now }
+        ensures all { self.new.all.now ≡ filled row_area (packed row_words count only) self.old.all.now }
+        ensures any { self.new.any.now ≡ filled row_area (packed row_words count (λ i. empty_set)) self.old.any.now }
+        ensures model { self.new.model.now ≡ with_model empty_set self.old.model.now }
+        ensures same { Same self.old self.new }
+    {
+        let unused = Book::row_at(count);
+        all_alone(self.all, count);
+        clear_stale(self.all, unused, Book::ROW_AREA, fresh);
+        clear(self.any, 0, unused);
+        clear_stale(self.any, unused, Book::ROW_AREA, fresh);
+        clear(self.model, 0, Book::ROW_WORDS);
     }
-    let row = Book::row_at(home);
-    rows::clear::clear_tail64(all, row, row + Book::ROW_WORDS);
-    rows::write::unite(all, row, bodies, from, Book::BODY_WORDS);
-    true
-}
 
-// The rules in book order, each at its home: its head, or its helper, which joins the head's "any" row. Returns c.
-pub fn fill(
-    heads: &[u16],
-    bodies: &[u64],
-    several: &[u64],
-    n: usize,
-    m: usize,
-    all: &mut [u64],
-    any: &mut [u64],
-    model: &mut [u64],
-) -> usize
-    requires { PlacingReady (record { heads = heads.now; bodies = bodies.now }) (record { names = n; rules = m }) several.now
-        (record { all = all.old; any = any.old; model = model.old }) }
-    ensures { Filled
-        (program_in (record { heads = heads.now; bodies = bodies.now }) (record { names = n; rules = m })) result
-        (record { all = all.old; any = any.old; model = model.old })
-        (record { all = all.new; any = any.new; model = model.new }) }
-{
-    let mut helper = n;
-    let mut c = 0;
-    let mut j = 0;
-    while j < m {
-        let head = heads[j] as usize;
-        let mut home = head;
-        if rows::read::member(several, 0, Book::BODY_WORDS, head) {
-            rows::write::insert(any, Book::row_at(head), Book::ROW_WORDS, helper);
-            home = helper;
-            helper += 1;
+    // A rule at its home: its body becomes the home's row; where it has none, the home joins the start set. Returns whether it has a body.
+    #[tactic(auto, using(crate::proofs::Overwriting::model_back), unfolding(sets::specs::Set::pick))]
+    fn place(&mut self, body: &[u64], home: usize) -> bool
+        requires { (home < atoms) × (length body.now ≡ body_words) }
+        ensures body { result ≡ exists (body_words * word_bits) (row body.now) }
+        ensures all { self.new.all.now ≡ pick result (with_row home (row body.now) self.old.all.now) self.old.all.now }
+        ensures any { self.new.any.now ≡ self.old.any.now }
+        ensures model { self.new.model.now
+            ≡ pick result self.old.model.now (with_model (union (model_in self.old.model.now) (only home)) self.old.model.now) }
+        ensures same { Same self.old self.new }
+    {
+        if row::empty(body) {
+            row::insert(&mut self.model[..Book::ROW_WORDS], home);
+            return false;
         }
-        let counted = place(bodies, j, home, all, model);
-        if counted {
-            c += 1;
-        }
-        j += 1;
+        let at = Book::row_at(home);
+        widen(&mut self.all[at..at + Book::ROW_WORDS], body);
+        true
     }
-    c
+
+    // The rules in book order, each at its home: its head, or its helper, which joins the head's "any" row. Returns c.
+    pub fn fill(&mut self, rules: &Rules<'_>, several: &[u64]) -> usize
+        requires { PlacingReady rules.now.tables rules.now.counts several.now
+            (record { all = self.old.all.now; any = self.old.any.now; model = self.old.model.now }) }
+        ensures filled { Filled (program_in rules.now.tables rules.now.counts) result
+            (record { all = self.old.all.now; any = self.old.any.now; model = self.old.model.now })
+            (record { all = self.new.all.now; any = self.new.any.now; model = self.new.model.now }) }
+        ensures same { Same self.old self.new }
+    {
+        let mut helper = rules.names();
+        let mut c = 0;
+        for j in 0..rules.rules() {
+            let head = rules.head(j);
+            let mut home = head;
+            if row::member(several, head) {
+                join(self.any, head, helper);
+                home = helper;
+                helper += 1;
+            }
+            let counted = self.place(rules.body(j), home);
+            if counted {
+                c += 1;
+            }
+        }
+        c
+    }
 }

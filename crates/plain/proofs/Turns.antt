@@ -1,16 +1,18 @@
 -- The loop of rounds over the rule tables, from the model area cleared.
 -- Assumes nothing.
-use mathlib.Core.Path.{◌≡◌, refl, sym, ap, ◌∙◌}
+use mathlib.Core.Path.{◌≡◌, refl, sym, ap, ap₂, ◌∙◌}
 use mathlib.Core.Bool.{Bool, true, false, not}
-use mathlib.Core.List.{List}
-use Prim.Native.Nat.{ℕ, ◌+◌, ◌*◌, ◌≤◌, ◌<◌}
+use mathlib.Core.List.{List, ◌++◌}
+use Prim.Native.Nat.{ℕ, ◌+◌, ◌*◌, ◌≤◌}
 use native.Mathlib.Omega.{arith}
-use lib.ListN.{length, get_or, replicate}
-use Rattle.limits.specs.Book.{names, rules, word_bits, row_words}
+use lib.ListN.{length, replicate, drop}
+use Rattle.std.proofs.lemmas.List.{append-nil, drop_all}
+use Rattle.limits.specs.Book.{names, word_bits, row_words}
 use Rattle.sets.specs.Set.{Set, count, same, union, empty_set}
 use Rattle.sets.proofs.Counting.{count_same, count_tail}
 use Rattle.areas.specs.Area.{part, put, cleared}
-use Rattle.areas.proofs.Parts.{length_part, length_put}
+use Rattle.areas.proofs.Parts.{length_part, length_put, part_whole}
+use Rattle.words.specs.Row.{row}
 use Rattle.program.specs.Program.{Program, consequence, plain_held, plain_rounds}
 use Rattle.tables.specs.Areas.{RuleTables, Counts, program_in}
 use Rattle.systems.specs.Rows.{below}
@@ -21,8 +23,7 @@ use Rattle.systems.proofs.Running.{length_model, model_again, model_same, model_
 use Rattle.systems.proofs.Turns.{Turn, turn_begin, turn_less, turn_on, turn_count, turn_set, turn_model}
 use Rattle.solving.specs.PlainClaims.{PlainLong}
 use Rattle.plain.specs.Step.{heads_from}
-use Rattle.ways.proofs.Counts.{heads_below}
-use Rattle.plain.proofs.Consequences.{none_in, nothing, few_rules, made_step, stepping}
+use Rattle.plain.proofs.Consequences.{none_in, nothing, made_step, stepping}
 
 -- The loop from model₀ and next₀: areas long enough, tables in order, and t rounds make the set in `next`.
 pub record Going (tables : RuleTables) (counts : Counts) (model₀ next₀ model next : List ℕ) (t : ℕ) : Type 0 where
@@ -34,14 +35,37 @@ pub record Going (tables : RuleTables) (counts : Counts) (model₀ next₀ model
   pub turn : Turn counts.names (consequence (program_in tables counts)) empty_set (λ v. heads_from tables counts.rules (model_in v))
       model₀ next₀ model next t
 
--- what is asked of a round
-abbrev pub MayStep : RuleTables → ℕ → List ℕ → List ℕ → Type 0
-MayStep tables m v next =
-    (m ≤ rules) × PlainLong tables v × (row_words ≤ length next) × ((j : ℕ) → j < m → get_or tables.heads j 0 < names)
-
 -- an area cleared is as long as it was
 length_cleared : (old new : List ℕ) → row_words ≤ length old → new ≡ cleared 0 row_words old → length new ≡ length old
 length_cleared old new l e = ap length (none_in old new e) ∙ length_model empty_set old l
+
+-- What the code does to the rows, in these words.
+
+-- `next` is a whole row: it is compared with the model's
+still_same : (model next : List ℕ) (still : Bool) → row_words ≤ length model → length next ≡ row_words
+    → still ≡ same (length (part 0 row_words model) * word_bits) (model_in model) (row next)
+    → still ≡ same (row_words * word_bits) (model_in model) (model_in next)
+still_same model next still l n e =
+    e
+    ∙ ap₂ (λ (k : ℕ) (ws : List ℕ). same (k * word_bits) (model_in model) (row ws)) (length_part 0 row_words model l)
+    (sym (part_whole row_words next n))
+
+-- copied over the model's
+copied : (model next first : List ℕ) → length next ≡ row_words → first ≡ next
+    → first ++ drop row_words model ≡ put 0 (part 0 row_words next) model
+copied model next first n e =
+    let k : row_words ≡ 0 + length (part 0 row_words next) = omega (arith, ap length (part_whole row_words next n)) in
+    ap₂ (λ (ws : List ℕ) (i : ℕ). ws ++ drop i model) (e ∙ sym (part_whole row_words next n)) k
+
+-- and cleared
+zeros : (next : List ℕ) → length next ≡ row_words → replicate row_words 0 ≡ cleared 0 row_words next
+zeros next n =
+    sym (append-nil (replicate row_words 0)) ∙ ap (λ (ws : List ℕ). replicate row_words 0 ++ ws) (sym (drop_all row_words next (omega arith)))
+
+-- the members of the model's are counted
+held_in : (model : List ℕ) (k : ℕ) → row_words ≤ length model → k ≡ count (length (part 0 row_words model) * word_bits) (model_in model)
+    → k ≡ count (row_words * word_bits) (model_in model)
+held_in model k l e = e ∙ ap (λ (w : ℕ). count (w * word_bits) (model_in model)) (length_part 0 row_words model l)
 
 -- a set left in a row of zeros is in as many words
 length_left : (f : Set) (next : List ℕ) → next ≡ with_model f (replicate row_words 0) → length next ≡ row_words
@@ -69,14 +93,10 @@ module _ (tables : RuleTables) (counts : Counts) where
 
   -- before the loop: the model area is cleared
   module _ (old model : List ℕ) (long : PlainLong tables old) (formed : formed_tables tables counts ≡ true) (e : model ≡ cleared 0 row_words old) where
-    long_model : PlainLong tables model
+    pub long_model : PlainLong tables model
     long_model = (long.0, let k : length model ≡ length old = length_cleared old model long.1 e in omega (arith, long.1))
 
-    -- round one may be made from it
-    pub first_may : MayStep tables m model (replicate row_words 0)
-    first_may = (few_rules tables counts formed, long_model, omega arith, heads_below tables counts formed)
-
-    -- and is
+    -- round one is made from it
     pub first_going : (next : List ℕ) → next ≡ with_model (union (model_in (replicate row_words 0)) (step model)) (replicate row_words 0)
         → Going tables counts model next model next 1
     first_going next d =
@@ -107,23 +127,28 @@ module _ (tables : RuleTables) (counts : Counts) where
       room_kept : length room ≡ row_words
       room_kept = length_cleared next room (omega (arith, g.room)) z ∙ g.room
 
-      long_kept : PlainLong tables model'
+      pub long_kept : PlainLong tables model'
       long_kept = (g.long.0, omega (arith, size_kept, g.long.1))
 
-      -- a further round may be made
-      pub next_may : MayStep tables m model' room
-      next_may = (few_rules tables counts g.formed, long_kept, omega (arith, room_kept), heads_below tables counts g.formed)
+    -- `still` is what the comparison of the two rows answers
+    module _ (still : Bool) (read : still ≡ same (length (part 0 row_words model) * word_bits) (model_in model) (row next)) where
+      e : still ≡ same (row_words * word_bits) (model_in model) (model_in next)
+      e = still_same model next still g.long.1 g.room read
 
-    module _ (still : Bool) (e : still ≡ same (row_words * word_bits) (model_in model) (model_in next)) where
       -- where a round changed something, the count stays small
       pub next_less : not still ≡ true → t + 1 ≤ n + 1
       next_less d =
           turn_less n (consequence p) empty_set step (stepping tables counts g.formed) model₀ next₀ model next t g.turn still e d
 
       -- and a further round is made
-      pub next_going : (model' room next' : List ℕ) → not still ≡ true → model' ≡ put 0 (part 0 row_words next) model → room ≡ cleared 0 row_words next
-          → next' ≡ with_model (union (model_in room) (step model')) room → Going tables counts model₀ next₀ model' next' (t + 1)
-      next_going model' room next' d q z h =
+      pub next_going : (first next' : List ℕ) → not still ≡ true → first ≡ next
+          → next' ≡ with_model (union (model_in (replicate row_words 0)) (step (first ++ drop row_words model))) (replicate row_words 0)
+          → Going tables counts model₀ next₀ (first ++ drop row_words model) next' (t + 1)
+      next_going first next' d f h =
+          let model' : List ℕ = first ++ drop row_words model in
+          let room : List ℕ = replicate row_words 0 in
+          let q : model' ≡ put 0 (part 0 row_words next) model = copied model next first g.room f in
+          let z : room ≡ cleared 0 row_words next = zeros next g.room in
           let left : next' ≡ with_model (below n (step model')) next =
           made_step tables counts g.formed model' next room next' (none_in next room z) h in
           record {
@@ -153,13 +178,13 @@ module _ (tables : RuleTables) (counts : Counts) where
             ∙ model_again (below n (plain_held p)) empty_set old
 
         -- and its members are those below n
-        pub last_held : (k : ℕ) → k ≡ count (row_words * word_bits) (model_in model) → k ≡ count n (plain_held p)
+        pub last_held : (k : ℕ) → k ≡ count (length (part 0 row_words model) * word_bits) (model_in model) → k ≡ count n (plain_held p)
         unfolding plain_held
         last_held k h =
             let s = stepping tables counts g.formed in
             let l : n ≤ row_words * word_bits = s.few in
             let f : Set = below n (plain_held p) in
-            h
+            held_in model k g.long.1 h
             ∙ ap (count (row_words * word_bits)) (turn_set n (consequence p) empty_set step s model₀ next₀ model next t g.turn still e d)
             ∙ count_tail n (row_words * word_bits) f l (λ a b u. ends_below n (plain_held p) a b)
             ∙ count_same n f (plain_held p) (below_at n (plain_held p))

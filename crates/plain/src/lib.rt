@@ -1,89 +1,71 @@
 // The public call of the plain route: rounds over the rule tables, from the empty set.
 #![tactic(auto)]
 
-ghost use Rattle.std.specs.Prelude.{◌≡◌, ℕ, ◌<◌, ◌≤◌, length, get_or};
-ghost use Rattle.limits.specs.Book.{names, rules, row_words};
+ghost use Rattle.std.specs.Prelude.{◌≡◌, ◌≤◌, length};
+ghost use Rattle.limits.specs.Book.{row_words};
+ghost use Rattle.limits.specs.Refusal.{number_in, count_in};
 ghost use Rattle.sets.specs.Set.{union};
 ghost use Rattle.systems.specs.Rounds.{model_in, with_model};
-ghost use Rattle.solving.specs.Plain.{short_plain, plain_call};
-ghost use Rattle.solving.specs.PlainClaims.{PlainLong};
+ghost use Rattle.solving.specs.Plain.{plain_call};
 ghost use Rattle.plain.specs.Step.{heads_from};
 
 use limits::{Book, Refusal};
+use rows::clear::clear;
+use rows::row;
+use ways::Rules;
 
-// The number of a refusal, 0 for none; then the held names and the rounds made.
-#[derive(Clone, Copy)]
-pub struct Answer {
-    pub number: usize,
+// What the plain route counts: the held names and the rounds made.
+#[derive(Clone, Copy, Debug, PartialEq, Eq)]
+pub struct Plain {
     pub held: usize,
     pub rounds: usize,
 }
 
-// Whether an area is shorter than its stated size.
-fn too_short(heads: &[u16], bodies: &[u64], model: &[u64]) -> bool
-    ensures { result ≡ short_plain (record { heads = heads.now; bodies = bodies.now }) model.now }
+// The heads of the rules whose body lies in v join `next`.
+fn step(rules: &Rules<'_>, v: &[u64], next: &mut [u64; Book::ROW_WORDS])
+    requires { row_words ≤ length v.now }
+    ensures { next.new
+        ≡ with_model (union (model_in next.old) (heads_from rules.now.tables rules.now.counts.rules (model_in v.now))) next.old }
 {
-    if heads.len() < Book::RULES {
-        return true;
-    }
-    if bodies.len() < Book::BODY_AREA {
-        return true;
-    }
-    model.len() < Book::ROW_WORDS
-}
-
-// The heads of the first m rules whose body lies in v join `next`.
-fn step(heads: &[u16], bodies: &[u64], m: usize, v: &[u64], next: &mut [u64])
-    requires { (m ≤ rules) × PlainLong (record { heads = heads.now; bodies = bodies.now }) v.now × (row_words ≤ length next.old)
-        × ((j : ℕ) → j < m → get_or heads.now j 0 < names) }
-    ensures { next.new ≡ with_model (union (model_in next.old)
-        (heads_from (record { heads = heads.now; bodies = bodies.now }) m (model_in v.now)))
-        next.old }
-{
-    let mut j = 0;
-    while j < m {
-        let holds = rows::read::within(bodies, Book::body_at(j), v, 0, Book::BODY_WORDS);
+    for j in 0..rules.rules() {
+        let holds = row::within(rules.body(j), &v[..Book::BODY_WORDS]);
         if holds {
-            rows::write::insert(next, 0, Book::ROW_WORDS, heads[j] as usize);
+            row::insert(next, rules.head(j));
         }
-        j += 1;
     }
 }
 
 // Makes the rounds over the first m rules of n names, from the empty set, and leaves the last set in the model area; a refusal leaves it as it was.
-pub fn run(heads: &[u16], bodies: &[u64], n: usize, m: usize, model: &mut [u64]) -> Answer
-    ensures { record { number = result.number; held = result.held; rounds = result.rounds; model = model.new }
-        ≡ plain_call (record { heads = heads.now; bodies = bodies.now }) (record { names = n; rules = m })
-        model.old }
+pub fn run(
+    heads: &[u16],
+    bodies: &[u64],
+    n: usize,
+    m: usize,
+    model: &mut [u64],
+) -> Result<Plain, Refusal>
+    ensures { record {
+      number = number_in result;
+      held = count_in (λ r. r.held) result;
+      rounds = count_in (λ r. r.rounds) result;
+      model = model.new;
+    } ≡ plain_call (record { heads = heads.now; bodies = bodies.now }) (record { names = n; rules = m }) model.old }
 {
-    if too_short(heads, bodies, model) {
-        return Answer {
-            number: Refusal::SHORT_AREA,
-            held: 0,
-            rounds: 0,
-        };
+    let short = model.len() < Book::ROW_WORDS;
+    if short {
+        return Err(Refusal::ShortArea);
     }
-    if !ways::formed(heads, bodies, n, m) {
-        return Answer {
-            number: Refusal::ILL_FORMED,
-            held: 0,
-            rounds: 0,
-        };
-    }
-    rows::clear::clear_tail64(model, 0, Book::ROW_WORDS);
-    let mut next = [0u64; Book::ROW_WORDS];
-    step(heads, bodies, m, model, &mut next);
+    let rules = Rules::judge(heads, bodies, n, m)?;
+    rules.in_order();
+    clear(model, 0, Book::ROW_WORDS);
+    let mut next = [0; Book::ROW_WORDS];
+    step(&rules, model, &mut next);
     let mut rounds = 1;
-    while !rows::read::equal(model, 0, &next, 0, Book::ROW_WORDS) {
-        rows::write::copy(model, 0, &next, 0, Book::ROW_WORDS);
-        rows::clear::clear_tail64(&mut next, 0, Book::ROW_WORDS);
-        step(heads, bodies, m, model, &mut next);
+    'rounds: while !row::equal(&model[..Book::ROW_WORDS], &next) {
+        model[..Book::ROW_WORDS].copy_from_slice(&next);
+        next = [0; Book::ROW_WORDS];
+        step(&rules, model, &mut next);
         rounds += 1;
     }
-    let held = rows::read::count(model, 0, Book::ROW_WORDS);
-    Answer {
-        number: 0,
-        held,
-        rounds,
-    }
+    let held = row::count(&model[..Book::ROW_WORDS]);
+    Ok(Plain { held, rounds })
 }

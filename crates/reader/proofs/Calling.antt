@@ -1,15 +1,22 @@
 -- The whole call: its refusals, and what the lines and the clearing leave.
 -- Assumes nothing.
 use mathlib.Core.Path.{◌≡◌, refl, sym, ap, ap₂, ◌∙◌, subst}
-use mathlib.Core.Bool.{Bool, true, ◌||◌}
+use mathlib.Core.Bool.{Bool, true}
 use mathlib.Core.List.{List, [], ◌++◌, map}
 use Prim.Native.Nat.{ℕ, ◌-◌, ◌*◌, ◌≤◌, ◌<◌}
 use native.Mathlib.Omega.{arith}
-use lib.Dec.{eqb, ltb}
+use lib.Dec.{eqb}
 use lib.ListN.{length, take, drop, replicate, length-map}
-use borrow.Author.Tests.{lt-ltb, le-ltb, eqb-true, eqb-false, eq-eqb, ne_eqb}
+use borrow.Author.Tests.{eqb-true, eqb-false, eq-eqb, ne_eqb}
+use Rattle.std.specs.Prelude.{Result, Ok, Err}
+use Rattle.std.specs.Result.{IsErr, IsErrAnd}
+use Rattle.limits.specs.Refusal.{number_of, refused_number, refused_line, count_in}
+use Rattle.limits.specs.declared.Refusal.{Refusal}
+use Rattle.limits.specs.declared.Refusal.TheVariants.{ShortArea, LongText, Mark, LastByte, Line, Names, Rules, Atoms, Folds, IllFormed, StartLost}
+use Rattle.limits.specs.declared.Refusal.TheVariants.{LongWritten, LongName, BarredByte, ReservedByte, UnsettledEntry}
+use Rattle.limits.specs.declared.Refused.{Refused}
 use Rattle.limits.specs.Book.{text_bytes, names, name_bytes, rules, name_area, body_words, body_area}
-use Rattle.sets.proofs.Logic.{either, or_left, or_right, pick_true, pick_false}
+use Rattle.sets.proofs.Logic.{either, pick_true, pick_false}
 use Rattle.program.specs.Program.{Rule}
 use Rattle.grammar.specs.Bytes.{Bytes, letters}
 use Rattle.grammar.specs.Grammar.{Clause}
@@ -17,7 +24,8 @@ use Rattle.grammar.specs.Letters.{FoldTable, letters_cause}
 use Rattle.scan.specs.Hash.{buckets}
 use Rattle.tables.specs.Numbering.{names_of, numbered}
 use Rattle.tables.specs.Reading.{Reading, refused, marked, ended, book_of, reading}
-use Rattle.tables.specs.Areas.{Areas, Outcome, name_rows, head_rows, body_rows, filled_with, tables_of, short, refusal, outcome, read_call, names_from}
+use Rattle.tables.specs.Areas.{Areas, Outcome, name_rows, head_rows, body_rows, filled_with, tables_of, short}
+use Rattle.tables.specs.Areas.{refusal, outcome, read_call, names_from}
 use Rattle.areas.specs.Area.{begun, filled, cleared}
 use Rattle.tables.proofs.Numbering.{names_none, heads_length, bodies_length}
 use Rattle.tables.proofs.Judging.{book_lines, reading_long, reading_short}
@@ -26,15 +34,21 @@ use Rattle.tables.proofs.Encoding.{length_name_rows, long_enough}
 use Rattle.tables.proofs.Calls.{read_pass}
 use Rattle.lexicon.proofs.Entering.{indexed_none}
 use Rattle.clause.specs.Found.{lexicon_of, Named}
-use Rattle.reader.specs.declared.Answer.{Answer}
+use Rattle.reader.specs.declared.Counts.{Counts}
 use Rattle.reader.specs.Short.{short_read}
 use Rattle.reader.specs.State.{Tables, tables_at, Booked, Stayed, Lined, all_lines}
 
 -- what the call answers and leaves
-abbrev pub gives : Answer → Bytes → List ℕ → List ℕ → Outcome
+abbrev pub gives : Result Counts Refused → Bytes → List ℕ → List ℕ → Outcome
 gives r area heads bodies =
     record {
-      answer = record { number = r.number; line = r.line; names = r.names; rules = r.rules };
+      answer =
+          record {
+            number = refused_number r;
+            line = refused_line r;
+            names = count_in (λ (n : Counts). n.names) r;
+            rules = count_in (λ (n : Counts). n.rules) r;
+          };
       areas = record { spellings = area; heads = heads; bodies = bodies };
     }
 
@@ -47,28 +61,32 @@ unfolding refusal
 refusal_none k old = ap (λ (a : Areas). record { answer = record { number = k; line = 0; names = 0; rules = 0 }; areas = a })
     (pick_true old (filled_with [] [] old) refl)
 
+-- every cause has a number
+pub number_some : (cause : Refusal) → number_of cause ≡ 0 → ⊥
+number_some ShortArea e = omega arith
+number_some LongText e = omega arith
+number_some Mark e = omega arith
+number_some LastByte e = omega arith
+number_some Line e = omega arith
+number_some Names e = omega arith
+number_some Rules e = omega arith
+number_some Atoms e = omega arith
+number_some Folds e = omega arith
+number_some IllFormed e = omega arith
+number_some StartLost e = omega arith
+number_some LongWritten e = omega arith
+number_some LongName e = omega arith
+number_some BarredByte e = omega arith
+number_some ReservedByte e = omega arith
+number_some UnsettledEntry e = omega arith
+
 -- a refusal before any line, where the text comes to that
-pub refuses : (area : Bytes) (heads bodies : List ℕ) (k : ℕ) (r : Answer) → r ≡ record { number = k; line = 0; names = 0; rules = 0 }
-    → (x : Reading) → x ≡ refused k 0 → gives r area heads bodies ≡ outcome x (lent area heads bodies)
+pub refuses : (area : Bytes) (heads bodies : List ℕ) (cause : Refusal) (r : Refused) → r ≡ record { cause = cause; line = 0 }
+    → (x : Reading) → x ≡ refused (number_of cause) 0 → gives (Err r) area heads bodies ≡ outcome x (lent area heads bodies)
 unfolding outcome
-refuses area heads bodies k r e x q =
-    ap (λ (x : Answer). gives x area heads bodies) e ∙ sym (refusal_none k (lent area heads bodies))
+refuses area heads bodies cause r e x q =
+    ap (λ (r : Refused). gives (Err r) area heads bodies) e ∙ sym (refusal_none (number_of cause) (lent area heads bodies))
     ∙ sym (ap (λ (y : Reading). outcome y (lent area heads bodies)) q)
-
--- areas of s, h and b entries: the first that is too short settles it
-module _ (s h b : ℕ) where
-  pub lack_names : s < name_area → true ≡ short_read s h b
-  unfolding short_read
-  lack_names l = sym (or_left (ltb h rules || ltb b body_area) (lt-ltb s name_area l))
-
-  pub lack_heads : h < rules → true ≡ short_read s h b
-  unfolding short_read
-  lack_heads l = sym (or_right (ltb s name_area) (or_left (ltb b body_area) (lt-ltb h rules l)))
-
-  -- else the bodies decide
-  pub lack_bodies : name_area ≤ s → rules ≤ h → ltb b body_area ≡ short_read s h b
-  unfolding short_read
-  lack_bodies p q = sym (rw (le-ltb s name_area p, le-ltb h rules q))
 
 -- The call: an area is too short or the table is refused, the text is too long, or it is read. The cause k is judged by the lengths.
 module _ (table t area : Bytes) (heads bodies : List ℕ) (low : Bool) (p : low ≡ short_read (length area) (length heads) (length bodies))
@@ -84,12 +102,20 @@ module _ (table t area : Bytes) (heads bodies : List ℕ) (low : Bool) (p : low 
   unfolding short short_read
   judged = q ∙ ap (λ (b : Bool). letters_cause b table) p
 
-  pub call_cause : (r : Answer) → r ≡ record { number = k; line = 0; names = 0; rules = 0 } → (k ≡ 0 → ⊥)
-      → gives r area heads bodies ≡ read_call table t was
+  pub call_cause : (cause : Refusal) (r : Refused) → r ≡ record { cause = cause; line = 0 } → k ≡ number_of cause
+      → gives (Err r) area heads bodies ≡ read_call table t was
   unfolding read_call
-  call_cause r e some =
-      ap (λ (x : Answer). gives x area heads bodies) e ∙ sym (refusal_none k was) ∙ ap (λ (i : ℕ). refusal i 0 was) judged
-      ∙ sym (pick_false (outcome (reading (letters table) t) was) (refusal due 0 was) (ne_eqb due 0 (λ z. some (judged ∙ z))))
+  call_cause cause r e some =
+      ap (λ (r : Refused). gives (Err r) area heads bodies) e ∙ sym (refusal_none (number_of cause) was)
+      ∙ ap (λ (i : ℕ). refusal i 0 was) (sym some ∙ judged)
+      ∙ sym (pick_false (outcome (reading (letters table) t) was) (refusal due 0 was)
+      (ne_eqb due 0 (λ z. number_some cause (sym some ∙ judged ∙ z))))
+
+  -- as a call hands it on
+  pub call_refused : (cause : Refusal) (r : Result Counts Refused) → IsErr r × IsErrAnd r (λ e. e ≡ record { cause = cause; line = 0 })
+      → k ≡ number_of cause → gives r area heads bodies ≡ read_call table t was
+  call_refused cause (Ok n) e some = absurd e.1
+  call_refused cause (Err r) e some = call_cause cause r e.1 some
 
   module _ (z : k ≡ 0) where
     -- the areas are long enough and the table passes
@@ -103,12 +129,17 @@ module _ (table t area : Bytes) (heads bodies : List ℕ) (low : Bool) (p : low 
     unfolding read_call
     call_is = pick_true (outcome (reading (letters table) t) was) (refusal due 0 was) (eq-eqb due 0 (sym judged ∙ z))
 
-    pub call_long : (r : Answer) → r ≡ record { number = 2; line = 0; names = 0; rules = 0 } → text_bytes < length t
-        → gives r area heads bodies ≡ read_call table t was
-    call_long r e l = refuses area heads bodies 2 r e (reading (letters table) t) (reading_long (letters table) t l) ∙ sym call_is
+    pub call_long : (r : Refused) → r ≡ record { cause = LongText; line = 0 } → text_bytes < length t
+        → gives (Err r) area heads bodies ≡ read_call table t was
+    call_long r e l =
+        refuses area heads bodies LongText r e (reading (letters table) t) (reading_long (letters table) t l) ∙ sym call_is
 
-    pub call_read : length t ≤ text_bytes → (o : Outcome) → o ≡ outcome (book_of (letters table) t) was → o ≡ read_call table t was
-    call_read size o e = e ∙ ap (λ (x : Reading). outcome x was) (sym (reading_short (letters table) t size)) ∙ sym call_is
+    pub call_read : length t ≤ text_bytes → (by : Bytes) → by ≡ table → (o : Outcome) → o ≡ outcome (book_of (letters by) t) was
+        → o ≡ read_call table t was
+    call_read size by j o e =
+        e ∙ ap (λ (x : Bytes). outcome (book_of (letters x) t) was) j
+        ∙ ap (λ (x : Reading). outcome x was) (sym (reading_short (letters table) t size))
+        ∙ sym call_is
 
 -- no clauses yet
 no_rows : name_rows [] ≡ []
@@ -143,7 +174,9 @@ pub booked_none : (area : Bytes) (heads bodies : List ℕ) → name_area ≤ len
     → Booked [] (tables_at 0 0 area (replicate buckets 0) (replicate names 0) heads bodies)
 booked_none area heads bodies la lh lb =
     record {
-      named = subst (λ (ns : List Bytes). Named ns (lexicon_of 0 area (replicate buckets 0) (replicate names 0))) (sym names_none) (named_none area la);
+      named =
+          subst (λ (ns : List Bytes). Named ns (lexicon_of 0 area (replicate buckets 0) (replicate names 0))) (sym names_none)
+          (named_none area la);
       count = refl;
       few = omega arith;
       heads_long = lh;
@@ -177,12 +210,6 @@ module _ (fold : ℕ → ℕ) (t : Bytes) (number line : ℕ) (y : Tables) (l : 
   left =
       lent (cleared (n * name_bytes) name_area y.lexicon.area) (cleared m rules y.heads) (cleared (m * body_words) body_area y.bodies)
 
-  -- the counts
-  counts : (n ≤ names) × (m ≤ rules)
-  counts =
-      by_number (λ z. let b = (l.reads z).1.2 in (b.named.few, b.few))
-      (λ z. let r = l.refuses z in (omega (arith, r.2), omega (arith, r.3)))
-
   module _ (x : Tables) (s : Stayed x y) where
     abbrev old : Areas
     old = lent x.lexicon.area x.heads x.bodies
@@ -213,12 +240,6 @@ module _ (fold : ℕ → ℕ) (t : Bytes) (number line : ℕ) (y : Tables) (l : 
         (cleared_filled body_area (m * body_words) [] x.bodies y.bodies mb (none_begun y.bodies) s.body_kept.past)
         ∙ ap (λ (a : Bytes). lent a (filled rules [] x.heads) (filled body_area [] x.bodies))
         (cleared_filled name_area (n * name_bytes) [] x.lexicon.area y.lexicon.area na (none_begun y.lexicon.area) s.kept.past)
-
-    -- what clearing needs
-    pub settling : name_area ≤ length x.lexicon.area → rules ≤ length x.heads → body_area ≤ length x.bodies
-        → (n ≤ names) × (m ≤ rules) × (name_area ≤ length y.lexicon.area) × (rules ≤ length y.heads) × (body_area ≤ length y.bodies)
-    settling la lh lb =
-        (counts.0, counts.1, omega (arith, s.kept.as_long), omega (arith, s.head_kept.as_long), omega (arith, s.body_kept.as_long))
 
     -- what is answered and left
     abbrev given : ℕ → ℕ → ℕ → ℕ → Areas → Outcome

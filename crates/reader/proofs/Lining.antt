@@ -3,7 +3,7 @@
 use mathlib.Core.Path.{◌≡◌, refl, sym, ap, ap₂, ◌∙◌, subst}
 use mathlib.Core.Bool.{true}
 use mathlib.Core.List.{List, [], ◌∷◌, ◌++◌}
-use Prim.Native.Nat.{ℕ, suc, ◌+◌, ◌-◌, ◌≤◌, ◌<◌}
+use Prim.Native.Nat.{ℕ, suc, ◌+◌, ◌≤◌, ◌<◌}
 use native.Mathlib.Omega.{arith}
 use lib.ListN.{length, drop, length-drop, drop_of_length-le}
 use lib.Seq.{drop-drop}
@@ -110,10 +110,6 @@ module _ (fold : ℕ → ℕ) (t : Bytes) (at line : ℕ) (x y : Tables) (g : Go
     here : all_lines fold t ≡ read_lines fold (line_at t at ∷ lines (drop (past_at not_end t at + 1) t)) g.cs line
     here = sym g.rest ∙ ap (λ (ls : List Bytes). read_lines fold ls g.cs line) cut_here
 
-    -- and is no further than its place
-    pub going_line : line ≤ at
-    going_line = omega (arith, g.behind)
-
     module _ (cause to next : ℕ) (w : Tables) (s : Stepped g.cs (form_at fold t at) (past_at not_end t at) line cause to next w) where
       -- it is refused
       pub going_stop : (cause ≡ 0 → ⊥) → (z : Tables) → z.lexicon.count ≡ 0 → z.count ≡ 0 → Lined fold t cause line z
@@ -133,9 +129,6 @@ module _ (fold : ℕ → ℕ) (t : Bytes) (at line : ℕ) (x y : Tables) (g : Go
 
       -- it is read on from
       module _ (z : cause ≡ 0) where
-        pub going_less : length t - to < length t - at
-        going_less = omega (arith, s.ends z, end_in)
-
         pub going_on : Stayed y w → Going fold t to next x w
         going_on k =
             let d : suc line ≡ next = omega (arith, s.counts z) in

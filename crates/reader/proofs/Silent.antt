@@ -10,7 +10,8 @@ use Rattle.sets.specs.Set.{pick}
 use Rattle.sets.proofs.Logic.{either, pick_true, pick_false}
 use Rattle.grammar.specs.Bytes.{Bytes, Folding, blank, name_byte, colon, hash, line_end}
 use Rattle.grammar.specs.Grammar.{Clause, Form, silent, rule, fault, spelling}
-use Rattle.grammar.specs.Lines.{past, words_of, is_name, all_names, starts, byte_fault, word_fault, words_fault, from_body, from_colon, from_head, form_of}
+use Rattle.grammar.specs.Lines.{past, words_of, is_name, all_names, starts, byte_fault, word_fault, words_fault}
+use Rattle.grammar.specs.Lines.{from_body, from_colon, from_head, form_of}
 use Rattle.grammar.proofs.Words.{form_remark, uncolon}
 use Rattle.grammar.proofs.Sorts.{byte_some, word_some, words_some}
 use Rattle.scan.specs.Places.{name_run}
@@ -59,7 +60,8 @@ body_loud fold h u =
 colon_loud : (fold : ℕ → ℕ) (h u : Bytes) → Loud (from_colon fold h u)
 unfolding from_colon
 colon_loud fold h u =
-    either (starts colon u) (λ c. subst Loud (sym (pick_true (from_body fold h (drop 1 u)) (fault (byte_fault fold u)) c)) (body_loud fold h (drop 1 u)))
+    either (starts colon u)
+    (λ c. subst Loud (sym (pick_true (from_body fold h (drop 1 u)) (fault (byte_fault fold u)) c)) (body_loud fold h (drop 1 u)))
     (λ c. subst Loud (sym (uncolon fold h u c)) (fault_loud (byte_fault fold u) (byte_some fold u)))
 
 -- so is every line with bytes, from its head on

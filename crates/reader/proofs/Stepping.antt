@@ -28,19 +28,10 @@ use Rattle.tables.proofs.Loop.{cause_rules, cause_names, cause_none}
 use Rattle.clause.specs.Line.{LineEnds, form_from, unblank, fault_of}
 use Rattle.clause.proofs.Forms.{closed_unblank, end_unblank}
 use Rattle.clause.proofs.Places.{end_here, in_text}
-use Rattle.clause.specs.Found.{Kept, Lexicon, names_at, Named, InOrder, Ruled, Said, names_with}
+use Rattle.clause.specs.Found.{Kept, Lexicon, names_at, Named, Ruled, Said, names_with}
 use Rattle.clause.proofs.Rows.{kept_same}
-use Rattle.reader.specs.declared.Step.{Step}
-use Rattle.reader.specs.State.{Tables, tables_at, Booked, Stayed, Stepped, form_at}
+use Rattle.reader.specs.State.{Tables, Booked, Stayed, Stepped, form_at}
 use Rattle.reader.proofs.Silent.{Loud, headed, headed_end, head_loud}
-
--- what a line of that form is answered and leaves: the areas kept past their sizes, and its step
-abbrev pub Answered : Form → ℕ → ℕ → Tables → Bytes → List ℕ → List ℕ → List ℕ → List ℕ → Step → Type 0
-Answered form end line x area first prior heads bodies r =
-    Stayed x (tables_at r.after.names r.after.rules area first prior heads bodies)
-    × ((cs : List Clause) → Booked cs x
-    → Stepped cs form end line r.cause r.after.cursor.at r.after.cursor.line
-    (tables_at r.after.names r.after.rules area first prior heads bodies))
 
 -- nothing changed
 pub stayed_same : (x : Tables) → Stayed x x
@@ -51,10 +42,6 @@ stayed_same x =
       body_kept = kept_same body_area x.bodies;
     }
 
--- what a rule is found by
-pub booked_ready : (cs : List Clause) (x : Tables) → Booked cs x → InOrder x.lexicon
-booked_ready cs x b = subst (λ (ns : List Bytes). Named ns x.lexicon) (sym b.named.there) b.named
-
 -- the end of a line, and its number, leave room for one more
 pub end_room : (t : Bytes) (i line end next : ℕ) → LineEnds t i → length t ≤ text_bytes → line ≤ i → end ≡ past_at not_end t i → next ≡ line
     → (end < text_bytes) × (next < text_bytes)
@@ -63,13 +50,13 @@ end_room t i line end next k l b e q = (omega (arith, in_text t i k not_end refl
 
 -- a line that says nothing
 pub stepped_silent : (cs : List Clause) (form : Form) (end line at next : ℕ) (x : Tables) → form ≡ silent
-    → at ≡ end + 1 → next ≡ line + 1 → Booked cs x → Stepped cs form end line 0 at next x
+    → at ≡ end → next ≡ line → Booked cs x → Stepped cs form end line 0 (at + 1) (next + 1) x
 unfolding line_cause taken
 stepped_silent cs form end line at next x e q p b =
     record {
       judged = sym (ap (line_cause cs) e);
-      ends = λ z. q;
-      counts = λ z. p;
+      ends = λ z. ap (λ (j : ℕ). j + 1) q;
+      counts = λ z. ap (λ (j : ℕ). j + 1) p;
       books = λ z. subst (λ (f : Form). Booked (taken cs f) x) (sym e) b;
     }
 
@@ -135,7 +122,9 @@ module _ (cs : List Clause) (c : Clause) (x : Tables) (b : Booked cs x) (room : 
 
   -- its head is a name's number
   head_low : room ≡ true → head < names
-  head_low e = omega (arith, r.head_is e, meets_met (names_at x.lexicon) (c.head ∷ c.body) c.head (first_among c.head c.body), within e, ap length more)
+  head_low e =
+      let m = meets_met (names_at x.lexicon) (c.head ∷ c.body) c.head (first_among c.head c.body) in
+      omega (arith, r.head_is e, m, within e, ap length more)
 
   -- the tables once it is entered
   module _ (l : x.count < rules) (e : room ≡ true) (heads' bodies' : List ℕ) (h : heads' ≡ set x.heads x.count head)
@@ -196,9 +185,6 @@ module _ {fold : ℕ → ℕ} {t : Bytes} {i h : ℕ} (k : Headed fold t i h) wh
   pub head_closed : LineEnds t h
   head_closed = subst (LineEnds t) (sym k.blanks) (closed_unblank fold k.law t i k.closed)
 
-  pub head_after : i ≤ h
-  head_after = omega (arith, k.blanks)
-
   form_head : form_from fold t h ≡ form_at fold t i
   form_head = sym (headed fold k.law t i k.closed k.plain ∙ ap (form_from fold t) (sym k.blanks))
 
@@ -214,7 +200,8 @@ module _ {fold : ℕ → ℕ} {t : Bytes} {i h : ℕ} (k : Headed fold t i h) wh
 
   -- what is known from the head on is known of the line
   pub stepped_head : (cs : List Clause) (line there cause at next : ℕ) (y : Tables) → there ≡ line
-      → Stepped cs (form_from fold t h) (past_at not_end t h) there cause at next y → Stepped cs (form_at fold t i) (past_at not_end t i) line cause at next y
+      → Stepped cs (form_from fold t h) (past_at not_end t h) there cause at next y
+      → Stepped cs (form_at fold t i) (past_at not_end t i) line cause at next y
   stepped_head cs line there cause at next y e s =
       record {
         judged = s.judged ∙ ap (line_cause cs) form_head;
@@ -238,7 +225,7 @@ pub record Behind (fold : ℕ → ℕ) (t : Bytes) (h : ℕ) (x : Tables) (r : �
   pub said : Said fold t h x.lexicon number at room head y (part r body_words bodies')
 
 module _ {fold : ℕ → ℕ} {t : Bytes} {h : ℕ} {x : Tables} {r : ℕ} {bodies' : List ℕ} {number at : ℕ} {room : Bool} {head : ℕ} {y : Lexicon}
-    (k : Behind fold t h x r bodies' number at room head y) (line : ℕ) where
+    (k : Behind fold t h x r bodies' number at room head y) where
   row_in : r + length (part r body_words bodies') ≤ body_area
   row_in = omega (arith, k.in_area, length_part r body_words bodies' (omega (arith, k.in_area, k.as_long, k.booked.bodies_long)))
 
@@ -252,13 +239,15 @@ module _ {fold : ℕ → ℕ} {t : Bytes} {h : ℕ} {x : Tables} {r : ℕ} {bodi
       }
 
   -- a line that is refused leaves something in that row alone
-  pub stayed_refused : (n m : ℕ) → Stayed x (record { lexicon = record { count = n; area = y.area; first = y.first; prior = y.prior }; count = m; heads = x.heads; bodies = bodies' })
+  pub stayed_refused : (n m : ℕ)
+      → Stayed x
+      (record { lexicon = record { count = n; area = y.area; first = y.first; prior = y.prior }; count = m; heads = x.heads; bodies = bodies' })
   stayed_refused n m = record { kept = k.said.kept; head_kept = kept_same rules x.heads; body_kept = bodies_kept }
 
   -- at fault
-  pub stepped_fault : (number ≡ 0 → ⊥) → (cs : List Clause) (at next : ℕ) (w : Tables)
+  pub stepped_fault : (number ≡ 0 → ⊥) → (cs : List Clause) (line at next : ℕ) (w : Tables)
       → Stepped cs (form_from fold t h) (past_at not_end t h) line number at next w
-  stepped_fault o cs at next w =
+  stepped_fault o cs line at next w =
       stepped_refused cs (form_from fold t h) (past_at not_end t h) line number at next w
       (k.said.judged ∙ fault_cause (form_from fold t h) cs (λ p. o (k.said.judged ∙ p))) o
 
@@ -267,14 +256,10 @@ module _ {fold : ℕ → ℕ} {t : Bytes} {h : ℕ} {x : Tables} {r : ℕ} {bodi
     saying : {X : Type 0} → ((c : Clause) → form_from fold t h ≡ rule c → X) → X
     saying g = by_rule (form_from fold t h) (sym k.said.judged ∙ o) (head_loud fold k.law t h k.closed k.loud) g
 
-    -- the line's end
-    pub rule_end : at ≡ past_at not_end t h
-    rule_end = k.said.ends o
-
     -- 256 rules are taken
-    pub stepped_full : x.count ≡ rules → (cs : List Clause) → Booked cs x → (at next : ℕ) (w : Tables)
+    pub stepped_full : x.count ≡ rules → (cs : List Clause) → Booked cs x → (line at next : ℕ) (w : Tables)
         → Stepped cs (form_from fold t h) (past_at not_end t h) line 7 at next w
-    stepped_full l cs b at next w =
+    stepped_full l cs b line at next w =
         saying
         (λ c p.
         stepped_refused cs (form_from fold t h) (past_at not_end t h) line 7 at next w
@@ -285,9 +270,9 @@ module _ {fold : ℕ → ℕ} {t : Bytes} {h : ℕ} {x : Tables} {r : ℕ} {bodi
       below = omega (arith, k.booked.few, f)
 
       -- too many names
-      pub stepped_over : room ≡ false → (cs : List Clause) → Booked cs x → (at next : ℕ) (w : Tables)
+      pub stepped_over : room ≡ false → (cs : List Clause) → Booked cs x → (line at next : ℕ) (w : Tables)
           → Stepped cs (form_from fold t h) (past_at not_end t h) line 6 at next w
-      stepped_over q cs b at next w =
+      stepped_over q cs b line at next w =
           saying
           (λ c p.
           stepped_refused cs (form_from fold t h) (past_at not_end t h) line 6 at next w
@@ -300,23 +285,30 @@ module _ {fold : ℕ → ℕ} {t : Bytes} {h : ℕ} {x : Tables} {r : ℕ} {bodi
         pub entering : (x.count < length x.heads) × (head < names)
         entering =
             saying
-            (λ c p. (omega (arith, below, k.booked.heads_long), head_low k.clauses c x k.booked room head y (part r body_words bodies') (k.said.says c p) q))
+            (λ c p.
+            let low = head_low k.clauses c x k.booked room head y (part r body_words bodies') (k.said.says c p) q in
+            (omega (arith, below, k.booked.heads_long), low))
 
         -- the tables with it
         module _ (heads' : List ℕ) (h' : heads' ≡ set x.heads x.count head) where
-          abbrev with_rule : Tables
-          with_rule = record { lexicon = y; count = x.count + 1; heads = heads'; bodies = bodies' }
-
           row_own : bodies' ≡ put (x.count * body_words) (part r body_words bodies') x.bodies
           row_own = k.rows ∙ ap (λ (j : ℕ). put j (part r body_words bodies') x.bodies) (k.own below)
 
-          pub stayed_rule : Stayed x with_rule
-          stayed_rule = record { kept = k.said.kept; head_kept = head_set x head below heads' h'; body_kept = bodies_kept }
+          pub stayed_rule : (n m : ℕ)
+              → Stayed x
+              (record {
+                lexicon = record { count = n; area = y.area; first = y.first; prior = y.prior };
+                count = m;
+                heads = heads';
+                bodies = bodies';
+              })
+          stayed_rule n m = record { kept = k.said.kept; head_kept = head_set x head below heads' h'; body_kept = bodies_kept }
 
-          pub stepped_rule : (cs : List Clause) → Booked cs x → (next to : ℕ) → to ≡ at + 1 → next ≡ line + 1
-              → Stepped cs (form_from fold t h) (past_at not_end t h) line 0 to next with_rule
+          pub stepped_rule : (cs : List Clause) → Booked cs x → (line next : ℕ) → next ≡ line
+              → Stepped cs (form_from fold t h) (past_at not_end t h) line 0 (at + 1) (next + 1)
+              (record { lexicon = y; count = x.count + 1; heads = heads'; bodies = bodies' })
           unfolding taken
-          stepped_rule cs b next to v w =
+          stepped_rule cs b line next w =
               saying
               (λ c p.
               let d : Ruled (names_at x.lexicon) c room head y (part r body_words bodies') = k.said.says c p in
@@ -324,10 +316,10 @@ module _ {fold : ℕ → ℕ} {t : Bytes} {h : ℕ} {x : Tables} {r : ℕ} {bodi
                 judged =
                     sym (cause_none cs c (omega (arith, b.count, below)) (within cs c x b room head y (part r body_words bodies') d q))
                     ∙ ap (line_cause cs) (sym p);
-                ends = λ z. v ∙ ap (λ (j : ℕ). j + 1) rule_end;
-                counts = λ z. w;
+                ends = λ z. ap (λ (j : ℕ). j + 1) (k.said.ends o);
+                counts = λ z. ap (λ (j : ℕ). j + 1) w;
                 books =
                     λ z.
-                    subst (λ (g : Form). Booked (taken cs g) with_rule) (sym p)
-                    (booked_more cs c x b room head y (part r body_words bodies') d below q heads' bodies' h' k.as_long row_own);
+                    subst (λ (g : Form). Booked (taken cs g) (record { lexicon = y; count = x.count + 1; heads = heads'; bodies = bodies' }))
+                    (sym p) (booked_more cs c x b room head y (part r body_words bodies') d below q heads' bodies' h' k.as_long row_own);
               })

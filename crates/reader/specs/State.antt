@@ -7,10 +7,13 @@ use Rattle.grammar.specs.Grammar.{Clause, Form, mark}
 use Rattle.grammar.specs.Lines.{lines, form_of}
 use Rattle.tables.specs.Numbering.{names_of, numbered}
 use Rattle.tables.specs.Reading.{Reading, read, refused, line_cause, taken, read_lines}
-use Rattle.tables.specs.Areas.{head_rows, body_rows}
+use Rattle.tables.specs.Areas.{Areas, head_rows, body_rows}
 use Rattle.areas.specs.Area.{begun}
 use Rattle.clause.specs.Line.{line_at}
+use Rattle.lexicon.specs.declared.Lexicon as words
+use Rattle.clause.specs.Held as held
 use Rattle.clause.specs.Found.{Kept, Lexicon, lexicon_of, Named}
+use Rattle.reader.specs.declared.RuleRows.{RuleRows}
 
 -- the form of the line at place i
 abbrev pub form_at : (ℕ → ℕ) → Bytes → ℕ → Form
@@ -26,6 +29,14 @@ pub record Tables : Type 0 where
 abbrev pub tables_at : ℕ → ℕ → Bytes → List ℕ → List ℕ → List ℕ → List ℕ → Tables
 tables_at n m area first prior heads bodies =
     record { lexicon = lexicon_of n area first prior; count = m; heads = heads; bodies = bodies }
+
+-- the tables that the code holds
+abbrev pub tables_in : words.Lexicon → RuleRows → Tables
+tables_in l r = record { lexicon = held.held l; count = r.count; heads = r.heads.now; bodies = r.bodies.now }
+
+-- the lent areas of rules are the ones they were
+abbrev pub SameRows : RuleRows → RuleRows → Type 0
+SameRows r r' = (r'.heads.ghost_name ≡ r.heads.ghost_name) × (r'.bodies.ghost_name ≡ r.bodies.ghost_name)
 
 -- they hold the clauses cs
 pub record Booked (cs : List Clause) (x : Tables) : Type 0 where
@@ -59,3 +70,10 @@ all_lines fold t = read_lines fold (lines (drop (length mark) t)) [] 2
 pub record Lined (fold : ℕ → ℕ) (t : Bytes) (number line : ℕ) (y : Tables) : Type 0 where
   pub reads : number ≡ 0 → (line ≡ 0) × ((cs : List Clause) × (all_lines fold t ≡ read cs) × Booked cs y)
   pub refuses : (number ≡ 0 → ⊥) → (all_lines fold t ≡ refused number line) × (2 ≤ line) × (y.lexicon.count ≡ 0) × (y.count ≡ 0)
+
+-- the lent areas when the lines are read, before their unused rows are cleared
+pub record Unsettled (fold : ℕ → ℕ) (t : Bytes) (number line n m : ℕ) (old new : Areas) : Type 0 where
+  pub first : List ℕ
+  pub prior : List ℕ
+  pub stays : Stayed (tables_at 0 0 old.spellings [] [] old.heads old.bodies) (tables_at n m new.spellings first prior new.heads new.bodies)
+  pub reads : Lined fold t number line (tables_at n m new.spellings first prior new.heads new.bodies)

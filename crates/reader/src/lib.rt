@@ -1,7 +1,8 @@
 // The public call that reads a book into its tables, in one pass over the text.
 #![tactic(auto)]
 
-ghost use Rattle.std.specs.Prelude.{◌≡◌, true, false, List, [], ◌+◌, ◌*◌, ◌<◌, ◌≤◌, length, drop};
+ghost use Rattle.std.specs.Prelude.{◌≡◌, IfOk, IfErr, true, false, List, [], ◌+◌, ◌*◌, ◌<◌, ◌≤◌, length, drop};
+ghost use Rattle.limits.specs.Refusal.{number_of, number_in, refused_number, refused_line, count_in};
 ghost use Rattle.limits.specs.Book.{text_bytes, names, name_bytes, rules, body_words, name_area, body_area};
 ghost use Rattle.areas.specs.Area.{part, put, cleared};
 ghost use Rattle.grammar.specs.Bytes.{line_end, not_end, letters};
@@ -12,20 +13,21 @@ ghost use Rattle.scan.specs.Places.{past_at};
 ghost use Rattle.tables.specs.Reading.{marked, ended, book_of};
 ghost use Rattle.tables.specs.Areas.{outcome, read_call};
 ghost use Rattle.clause.specs.Line.{LineEnds, form_from};
-ghost use Rattle.clause.specs.Found.{lexicon_of, InOrder, Said};
+ghost use Rattle.clause.specs.Found.{InOrder, Said};
+ghost use Rattle.clause.specs.Held.{held, at_in, room_in, head_in};
 ghost use Rattle.reader.specs.Short.{short_read};
-ghost use Rattle.reader.specs.State.{form_at, tables_at, Booked, Stayed, Stepped, Lined};
+ghost use Rattle.reader.specs.State.{Tables, form_at, tables_in, SameRows, Booked, Stayed, Stepped, Lined, Unsettled};
 
 use clause::{Found, rule};
-use limits::{Book, Refusal};
-use rows::clear::{clear_tail8, clear_tail16, clear_tail64};
-use scan::cursor::{Cursor, Word};
+use lexicon::Lexicon;
+use limits::{Book, Refusal, Refused};
+use rows::clear::clear;
+use scan::cursor::Cursor;
+use scan::letters::Letters;
 
-// What a call returns: the number of the refusal with its line, 0 for none, and how many names and rules there are.
-#[derive(Clone, Copy)]
-pub struct Answer {
-    pub number: usize,
-    pub line: usize,
+// How many names and rules a book has.
+#[derive(Clone, Copy, Debug, PartialEq, Eq)]
+pub struct Counts {
     pub names: usize,
     pub rules: usize,
 }
@@ -34,44 +36,7 @@ pub struct Answer {
 fn begins(text: &[u8]) -> bool
     ensures { result ≡ marked text.now }
 {
-    if text.len() < Cursor::MARK_BYTES {
-        return false;
-    }
-    let mut i = 0;
-    while i < Cursor::MARK_BYTES {
-        if text[i] != Cursor::MARK[i] {
-            return false;
-        }
-        i += 1;
-    }
-    true
-}
-
-// A refusal, for which there are neither names nor rules.
-fn refused(number: usize, line: usize) -> Answer
-    ensures { result ≡ record { number = number; line = line; names = 0; rules = 0 } }
-{
-    Answer {
-        number,
-        line,
-        names: 0,
-        rules: 0,
-    }
-}
-
-// Where reading stands: the cursor before a line, and how many names and rules there are above it.
-#[derive(Clone, Copy)]
-struct Reading {
-    pub cursor: Cursor,
-    pub names: usize,
-    pub rules: usize,
-}
-
-// What a line comes to: the cause for which it is refused, 0 for none, and where reading stands then, behind the line or still before it.
-#[derive(Clone, Copy)]
-struct Step {
-    pub cause: usize,
-    pub after: Reading,
+    text.starts_with(&Cursor::MARK)
 }
 
 // Where the body of the rule after the first m is found: in its own row. A full table lends its last row, since the line is refused then, and
@@ -88,248 +53,233 @@ fn row_after(m: usize) -> usize
 }
 
 // The rule from its head at the cursor to the line's end, its body in the row from place `at`, which is cleared for it. That row is lent as it
-// lies, since a row of one's own would have to be copied as soon as it is written.
+// lies, since a row of one's own would have to be copied as soon as it is written. The text and its letters go side by side here and below, as the
+// crates of lines and of names take them: one value of both would be taken apart at each call of theirs.
 fn rule_at(
     text: &[u8],
-    table: &[u8],
+    folding: &Letters<'_>,
     cursor: Cursor,
-    spellings: &mut [u8],
-    first: &mut [u16],
-    prior: &mut [u16],
+    lexicon: &mut Lexicon<'_>,
     bodies: &mut [u64],
     at: usize,
-    n: usize,
-) -> Found
+) -> Result<Found, Refusal>
     requires line_ends { LineEnds text.now cursor.at × (starts line_end (drop cursor.at text.now) ≡ false) }
-    requires fold_table { FoldTable table.now × (at + body_words ≤ length bodies.old) }
-    requires in_order { InOrder (lexicon_of n spellings.old first.old prior.old) }
-    ensures line { result.cursor.line ≡ cursor.line }
+    requires row_in_area { at + body_words ≤ length bodies.old }
+    requires in_order { InOrder (held lexicon.old) }
+    ensures same { lexicon.new.spellings.ghost_name ≡ lexicon.old.spellings.ghost_name }
+    ensures line { IfOk result (λ f. f.end.line ≡ cursor.line) }
     ensures row { bodies.new ≡ put at (part at body_words bodies.new) bodies.old }
-    ensures said { Said (letters table.now) text.now cursor.at
-        (lexicon_of n spellings.old first.old prior.old)
-        result.fault result.cursor.at result.room result.head
-        (lexicon_of result.names spellings.new first.new prior.new)
+    ensures said { Said (letters folding.now) text.now cursor.at (held lexicon.old)
+        (number_in result) (at_in result) (room_in result) (head_in result) (held lexicon.new)
         (part at body_words bodies.new) }
 {
-    clear_tail64(bodies, at, at + Book::BODY_WORDS);
+    clear(bodies, at, at + Book::BODY_WORDS);
     rule(
         text,
-        table,
+        folding,
         cursor,
-        spellings,
-        first,
-        prior,
+        lexicon,
         &mut bodies[at..at + Book::BODY_WORDS],
-        n,
     )
 }
 
-impl Reading {
-    // The line whose head is at the cursor: its fault comes before 7, and 7 before 6. Only a rule that is not refused is counted.
+// The rules of a book while its lines are read: the lent areas of their heads and of their bodies, and how many there are. The names go beside
+// them: one value of both was tried, and what a struct in a struct hands back of its `&mut` got no proof.
+#[derive(Drop)]
+struct RuleRows<'a> {
+    pub heads: &'a mut [u16],
+    pub bodies: &'a mut [u64],
+    pub count: usize,
+}
+
+impl<'a> RuleRows<'a> {
+    // The line whose head is at the cursor: its own fault comes first, then that the rules are full, then that the names are. Only a rule that
+    // is not refused is counted.
     fn rule(
-        self,
+        &mut self,
+        lexicon: &mut Lexicon<'_>,
         head: Cursor,
         text: &[u8],
-        table: &[u8],
-        spellings: &mut [u8],
-        first: &mut [u16],
-        prior: &mut [u16],
-        heads: &mut [u16],
-        bodies: &mut [u64],
-    ) -> Step
+        folding: &Letters<'_>,
+    ) -> Result<Cursor, Refusal>
         requires line_ends { LineEnds text.now head.at × (starts line_end (drop head.at text.now) ≡ false) }
-        requires text_len_bound { (length text.now ≤ text_bytes) × (head.line ≤ head.at) × FoldTable table.now }
-        requires booked { (cs : List Clause)
-            × Booked cs (tables_at self.names self.rules spellings.old first.old prior.old heads.old bodies.old) }
-        ensures stays { Stayed
-            (tables_at self.names self.rules spellings.old first.old prior.old heads.old bodies.old)
-            (tables_at result.after.names result.after.rules spellings.new first.new prior.new heads.new bodies.new) }
+        requires text_len_bound { (length text.now ≤ text_bytes) × (head.line ≤ head.at) × FoldTable folding.now }
+        requires booked { (cs : List Clause) × Booked cs (tables_in lexicon.old self.old) }
+        ensures same_names { lexicon.new.spellings.ghost_name ≡ lexicon.old.spellings.ghost_name }
+        ensures same_rows { SameRows self.old self.new }
+        ensures stays { Stayed (tables_in lexicon.old self.old) (tables_in lexicon.new self.new) }
         ensures steps { (cs : List Clause)
-            → Booked cs
-            (tables_at self.names self.rules spellings.old first.old prior.old heads.old bodies.old)
-            → Stepped cs (form_from (letters table.now) text.now head.at) (past_at not_end text.now head.at)
-            head.line result.cause result.after.cursor.at result.after.cursor.line
-            (tables_at result.after.names result.after.rules spellings.new first.new prior.new heads.new bodies.new) }
+            → Booked cs (tables_in lexicon.old self.old)
+            → Stepped cs (form_from (letters folding.now) text.now head.at) (past_at not_end text.now head.at) head.line
+            (number_in result) (count_in (λ c. c.at) result) (count_in (λ c. c.line) result)
+            (tables_in lexicon.new self.new) }
     {
-        let m = self.rules;
+        let m = self.count;
         let at = row_after(m);
-        let found = rule_at(
-            text, table, head, spellings, first, prior, bodies, at, self.names,
-        );
-        if found.fault != 0 {
-            return before(found.fault, self);
-        }
+        let found = rule_at(text, folding, head, lexicon, self.bodies, at)?;
         if m == Book::RULES {
-            return before(Refusal::RULES, self);
+            return Err(Refusal::Rules);
         }
-        if !found.room {
-            return before(Refusal::NAMES, self);
-        }
-        heads[m] = found.head as u16;
-        behind(found.cursor, found.names, m + 1)
+        let Some(number) = found.head else {
+            return Err(Refusal::Names);
+        };
+        self.heads[m] = number as u16;
+        self.count = m + 1;
+        Ok(found.end.next_line())
     }
 
-    // The line at the cursor.
+    // The line at the cursor: the cursor behind it.
     fn line(
-        self,
+        &mut self,
+        lexicon: &mut Lexicon<'_>,
+        cursor: Cursor,
         text: &[u8],
-        table: &[u8],
-        spellings: &mut [u8],
-        first: &mut [u16],
-        prior: &mut [u16],
-        heads: &mut [u16],
-        bodies: &mut [u64],
-    ) -> Step
-        requires line_ends { LineEnds text.now self.cursor.at × (length text.now ≤ text_bytes) × (self.cursor.line ≤ self.cursor.at)
-            × FoldTable table.now }
-        requires booked { (cs : List Clause)
-            × Booked cs (tables_at self.names self.rules spellings.old first.old prior.old heads.old bodies.old) }
-        ensures stays { Stayed
-            (tables_at self.names self.rules spellings.old first.old prior.old heads.old bodies.old)
-            (tables_at result.after.names result.after.rules spellings.new first.new prior.new heads.new bodies.new) }
+        folding: &Letters<'_>,
+    ) -> Result<Cursor, Refusal>
+        requires line_ends { LineEnds text.now cursor.at }
+        requires text_len_bound { (length text.now ≤ text_bytes) × (cursor.line ≤ cursor.at) × FoldTable folding.now }
+        requires booked { (cs : List Clause) × Booked cs (tables_in lexicon.old self.old) }
+        ensures same_names { lexicon.new.spellings.ghost_name ≡ lexicon.old.spellings.ghost_name }
+        ensures same_rows { SameRows self.old self.new }
+        ensures stays { Stayed (tables_in lexicon.old self.old) (tables_in lexicon.new self.new) }
         ensures steps { (cs : List Clause)
-            → Booked cs
-            (tables_at self.names self.rules spellings.old first.old prior.old heads.old bodies.old)
-            → Stepped cs (form_at (letters table.now) text.now self.cursor.at)
-            (past_at not_end text.now self.cursor.at) self.cursor.line
-            result.cause result.after.cursor.at result.after.cursor.line
-            (tables_at result.after.names result.after.rules spellings.new first.new prior.new heads.new bodies.new) }
+            → Booked cs (tables_in lexicon.old self.old)
+            → Stepped cs (form_at (letters folding.now) text.now cursor.at) (past_at not_end text.now cursor.at) cursor.line
+            (number_in result) (count_in (λ c. c.at) result) (count_in (λ c. c.line) result)
+            (tables_in lexicon.new self.new) }
     {
-        let cursor = self.cursor;
         if cursor.sees(text, Cursor::HASH) {
-            return behind(cursor.past_line(text), self.names, self.rules);
+            let end = cursor.past_line(text);
+            return Ok(end.next_line());
         }
         let head = cursor.past_blanks(text);
         if head.sees(text, Cursor::LINE_END) {
-            return behind(head, self.names, self.rules);
+            return Ok(head.next_line());
         }
-        self.rule(head, text, table, spellings, first, prior, heads, bodies)
+        self.rule(lexicon, head, text, folding)
+    }
+
+    // The lines after the mark, up to the first that is refused.
+    fn lines(
+        &mut self,
+        lexicon: &mut Lexicon<'_>,
+        text: &[u8],
+        folding: &Letters<'_>,
+    ) -> Result<(), Refused>
+        requires text_len_bound { (length text.now ≤ text_bytes) × (marked text.now ≡ true) × (ended text.now ≡ true) }
+        requires booked { Booked [] (tables_in lexicon.old self.old) }
+        ensures same_names { lexicon.new.spellings.ghost_name ≡ lexicon.old.spellings.ghost_name }
+        ensures same_rows { SameRows self.old self.new }
+        ensures stays { Stayed (tables_in lexicon.old self.old) (tables_in lexicon.new self.new) }
+        ensures reads { IfOk result (λ _. Lined (letters folding.now) text.now 0 0 (tables_in lexicon.new self.new)) }
+        ensures refuses { IfErr result (λ e. (y : Tables) → y.lexicon.count ≡ 0 → y.count ≡ 0
+            → Lined (letters folding.now) text.now (number_of e.cause) e.line y) }
+    {
+        folding.passes();
+        let mut cursor = Cursor::first_line();
+        while cursor.at < text.len() {
+            match self.line(lexicon, cursor, text, folding) {
+                Ok(behind) => cursor = behind,
+                Err(cause) => {
+                    return Err(Refused {
+                        cause,
+                        line: cursor.line,
+                    });
+                }
+            }
+        }
+        Ok(())
     }
 }
 
-// A line that is refused for that cause: reading stands before it.
-fn before(cause: usize, reading: Reading) -> Step
-    ensures { result ≡ record { cause = cause; after = reading } }
-{
-    Step {
-        cause,
-        after: reading,
-    }
-}
-
-// A line that is read, whose end is at the cursor: reading goes on behind it.
-fn behind(end: Cursor, n: usize, m: usize) -> Step
-    requires { (end.at < text_bytes) × (end.line < text_bytes) }
-    ensures { result ≡ record {
-      cause = 0;
-      after = record { cursor = record { at = end.at + 1; line = end.line + 1 }; names = n; rules = m };
-    } }
-{
-    Step {
-        cause: 0,
-        after: Reading {
-            cursor: end.next_line(),
-            names: n,
-            rules: m,
-        },
-    }
-}
-
-// The lines after the mark, up to the first that is refused.
-fn lines(
+// The lines after the mark, read into the areas as they are lent. They are lent one by one: one value of the three was tried, and what the names
+// hand back of its field got no proof.
+fn book(
     text: &[u8],
-    table: &[u8],
+    folding: &Letters<'_>,
     spellings: &mut [u8],
-    first: &mut [u16],
-    prior: &mut [u16],
     heads: &mut [u16],
     bodies: &mut [u64],
-) -> Answer
-    requires text_len_bound { (length text.now ≤ text_bytes) × (marked text.now ≡ true) × (ended text.now ≡ true) × FoldTable table.now }
-    requires booked { Booked [] (tables_at 0 0 spellings.old first.old prior.old heads.old bodies.old) }
-    ensures stays { Stayed
-        (tables_at 0 0 spellings.old first.old prior.old heads.old bodies.old)
-        (tables_at result.names result.rules spellings.new first.new prior.new heads.new bodies.new) }
-    ensures reads { Lined (letters table.now) text.now result.number result.line
-        (tables_at result.names result.rules spellings.new first.new prior.new heads.new bodies.new) }
+) -> Result<Counts, Refused>
+    requires long { (name_area ≤ length spellings.old) × (rules ≤ length heads.old) × (body_area ≤ length bodies.old) }
+    requires text_len_bound { (length text.now ≤ text_bytes) × (marked text.now ≡ true) × (ended text.now ≡ true) }
+    ensures { Unsettled (letters folding.now) text.now (refused_number result) (refused_line result)
+        (count_in (λ c. c.names) result) (count_in (λ c. c.rules) result)
+        (record { spellings = spellings.old; heads = heads.old; bodies = bodies.old })
+        (record { spellings = spellings.new; heads = heads.new; bodies = bodies.new }) }
 {
-    let mut reading = Reading {
-        cursor: Cursor::first_line(),
-        names: 0,
-        rules: 0,
+    let mut lexicon = Lexicon::new(spellings);
+    let mut rows = RuleRows {
+        heads,
+        bodies,
+        count: 0,
     };
-    while reading.cursor.at < text.len() {
-        let step = reading.line(text, table, spellings, first, prior, heads, bodies);
-        if step.cause != 0 {
-            return refused(step.cause, reading.cursor.line);
-        }
-        let after = step.after;
-        reading = after;
-    }
-    Answer {
-        number: 0,
-        line: 0,
-        names: reading.names,
-        rules: reading.rules,
-    }
+    rows.lines(&mut lexicon, text, folding)?;
+    Ok(Counts {
+        names: lexicon.count,
+        rules: rows.count,
+    })
 }
 
 // Every area is cleared from its first unused row to its end.
-fn settle(spellings: &mut [u8], heads: &mut [u16], bodies: &mut [u64], n: usize, m: usize)
-    requires { (n ≤ names) × (m ≤ rules) × (name_area ≤ length spellings.old) × (rules ≤ length heads.old)
+fn settle(spellings: &mut [u8], heads: &mut [u16], bodies: &mut [u64], counts: Counts)
+    requires { (counts.names ≤ names) × (counts.rules ≤ rules) × (name_area ≤ length spellings.old) × (rules ≤ length heads.old)
         × (body_area ≤ length bodies.old) }
-    ensures spellings { spellings.new ≡ cleared (n * name_bytes) name_area spellings.old }
-    ensures heads { heads.new ≡ cleared m rules heads.old }
-    ensures bodies { bodies.new ≡ cleared (m * body_words) body_area bodies.old }
+    ensures spellings { spellings.new ≡ cleared (counts.names * name_bytes) name_area spellings.old }
+    ensures heads { heads.new ≡ cleared counts.rules rules heads.old }
+    ensures bodies { bodies.new ≡ cleared (counts.rules * body_words) body_area bodies.old }
 {
-    clear_tail8(spellings, Book::name_at(n), Book::NAME_AREA);
-    clear_tail16(heads, m, Book::RULES);
-    clear_tail64(bodies, Book::body_at(m), Book::BODY_AREA);
+    clear(spellings, Book::name_at(counts.names), Book::NAME_AREA);
+    clear(heads, counts.rules, Book::RULES);
+    clear(bodies, Book::body_at(counts.rules), Book::BODY_AREA);
 }
 
 // Reads a text within its limit into areas that are long enough, by the letters of the lent table: the work of the call below.
 pub fn read_formed(
     text: &[u8],
-    table: &[u8],
+    folding: &Letters<'_>,
     spellings: &mut [u8],
     heads: &mut [u16],
     bodies: &mut [u64],
-) -> Answer
+) -> Result<Counts, Refused>
     requires name_area_in_bounds { (name_area ≤ length spellings.old) × (rules ≤ length heads.old) × (body_area ≤ length bodies.old) }
-    requires text_len_bound { (length text.now ≤ text_bytes) × FoldTable table.now }
+    requires text_len_bound { (length text.now ≤ text_bytes) }
     ensures { record {
-      answer = record { number = result.number; line = result.line; names = result.names; rules = result.rules };
+      answer = record {
+        number = refused_number result;
+        line = refused_line result;
+        names = count_in (λ c. c.names) result;
+        rules = count_in (λ c. c.rules) result;
+      };
       areas = record { spellings = spellings.new; heads = heads.new; bodies = bodies.new };
     }
-        ≡ outcome (book_of (letters table.now) text.now)
+        ≡ outcome (book_of (letters folding.now) text.now)
         (record { spellings = spellings.old; heads = heads.old; bodies = bodies.old }) }
 {
     if !begins(text) {
-        return refused(Refusal::MARK, 0);
+        return Err(Refusal::Mark.into());
     }
     if text[text.len() - 1] != Cursor::LINE_END {
-        return refused(Refusal::LAST_BYTE, 0);
+        return Err(Refusal::LastByte.into());
     }
-    let mut first = [0u16; Word::BUCKETS];
-    let mut prior = [0u16; Book::NAMES];
-    let answer = lines(
-        text, table, spellings, &mut first, &mut prior, heads, bodies,
-    );
-    settle(spellings, heads, bodies, answer.names, answer.rules);
-    answer
+    match book(text, folding, spellings, heads, bodies) {
+        Ok(counts) => {
+            settle(spellings, heads, bodies, counts);
+            Ok(counts)
+        }
+        Err(refused) => {
+            settle(spellings, heads, bodies, Counts { names: 0, rules: 0 });
+            Err(refused)
+        }
+    }
 }
 
 // Whether an area is shorter than its stated size, by their lengths.
+#[tactic(auto, unfolding(crate::specs::Short::short_read))]
 fn too_short(spellings: usize, heads: usize, bodies: usize) -> bool
     ensures { result ≡ short_read spellings heads bodies }
 {
-    if spellings < Book::NAME_AREA {
-        return true;
-    }
-    if heads < Book::RULES {
-        return true;
-    }
-    bodies < Book::BODY_AREA
+    spellings < Book::NAME_AREA || heads < Book::RULES || bodies < Book::BODY_AREA
 }
 
 // Reads the text into the areas, by the letters of the lent table.
@@ -340,21 +290,23 @@ pub fn read(
     spellings: &mut [u8],
     heads: &mut [u16],
     bodies: &mut [u64],
-) -> Answer
+) -> Result<Counts, Refused>
     ensures { record {
-      answer = record { number = result.number; line = result.line; names = result.names; rules = result.rules };
+      answer = record {
+        number = refused_number result;
+        line = refused_line result;
+        names = count_in (λ c. c.names) result;
+        rules = count_in (λ c. c.rules) result;
+      };
       areas = record { spellings = spellings.new; heads = heads.new; bodies = bodies.new };
     }
         ≡ read_call table.now text.now
         (record { spellings = spellings.old; heads = heads.old; bodies = bodies.old }) }
 {
     let short = too_short(spellings.len(), heads.len(), bodies.len());
-    let cause = scan::table::cause(short, table);
-    if cause != 0 {
-        return refused(cause, 0);
-    }
+    let folding = Letters::judge(short, table)?;
     if Book::TEXT_BYTES < text.len() {
-        return refused(Refusal::LONG_TEXT, 0);
+        return Err(Refusal::LongText.into());
     }
-    read_formed(text, table, spellings, heads, bodies)
+    read_formed(text, &folding, spellings, heads, bodies)
 }

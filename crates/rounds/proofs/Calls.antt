@@ -1,98 +1,85 @@
 -- The tests of the call, and its outcomes.
 -- Assumes nothing.
 use mathlib.Core.Path.{◌≡◌, refl, sym, ap, ap₂, ◌∙◌}
-use mathlib.Core.Bool.{Bool, true, false, not, ◌&&◌, ◌||◌}
+use mathlib.Core.Bool.{Bool, true, false, ◌&&◌, ◌||◌}
 use mathlib.Core.List.{List}
 use Prim.Native.Nat.{ℕ, ◌-◌, ◌*◌, ◌≤◌, ◌<◌}
 use native.Mathlib.Omega.{arith}
 use lib.Dec.{leb, ltb}
-use lib.ListN.{length}
-use borrow.Author.Tests.{lt-ltb, le-ltb, leb-true, leb-false, not-true, not-false}
+use lib.ListN.{length, take}
+use borrow.Author.Tests.{leb-true, leb-false, lt-ltb}
 use Rattle.limits.specs.Book.{atoms, word_bits, row_words, row_area}
 use Rattle.sets.specs.Set.{Set, pick, within, next}
 use Rattle.sets.proofs.Logic.{either, or_left, or_right, pick_true, pick_false}
+use Rattle.areas.proofs.Parts.{length_part}
+use Rattle.words.specs.Row.{row, pack}
+use Rattle.words.proofs.Rows.{length_pack}
 use Rattle.program.specs.System.{System, rounds_of, held_by}
 use Rattle.systems.specs.Rows.{RowAreas, below, formed_rows}
 use Rattle.systems.specs.Fold.{formed_all}
 use Rattle.systems.specs.Rounds.{model_in, with_model, system_in, short_system, formed_system, start_kept, rounds_refusal, rounds_made, rounds_call}
 use Rattle.systems.specs.Claims.{RoundsLong}
-use Rattle.systems.proofs.Running.{long_at, long_make, order_make, model_again, length_model, kept_test, runs}
-use Rattle.rowcheck.proofs.Counted.{none_past, some_past, passed}
+use Rattle.systems.proofs.Running.{long_make, order_make, kept_test, runs}
+use Rattle.rowcheck.proofs.Counted.{none_past, some_past, keeps}
 use Rattle.rounds.specs.Step.{next_set, RoundsReady}
-use Rattle.rounds.proofs.Turns.{few, start_ends, made_round}
+use Rattle.rounds.proofs.Turns.{few, start_ends, made_round, whole_model, part_next}
 
-module _ (o : RowAreas) where
-  -- an area too short settles it
-  pub lack_all : length o.all < row_area → true ≡ short_system o
-  unfolding short_system
-  lack_all l = sym (or_left (ltb (length o.any) row_area || ltb (length o.model) row_words) (lt-ltb (length o.all) row_area l))
+-- the start set has nothing at or past the count
+pub start_in : List ℕ → ℕ → Bool
+start_in model m = within (row_words * word_bits) (model_in model) (λ k. ltb k m)
 
-  pub lack_any : length o.any < row_area → true ≡ short_system o
-  unfolding short_system
-  lack_any l = sym (or_right (ltb (length o.all) row_area) (or_left (ltb (length o.model) row_words) (lt-ltb (length o.any) row_area l)))
+-- its first atom at or past the count decides that
+pub start_decides : (model : List ℕ) (m : ℕ) → m ≤ atoms → row_words ≤ length model
+    → start_in model m ≡ leb atoms (next (length (take row_words model) * word_bits - m) (row (take row_words model)) m)
+unfolding start_in
+start_decides model m h l =
+    let r : ℕ = next (row_words * word_bits - m) (model_in model) m in
+    sym (either (leb atoms r)
+    (λ t. t ∙ sym (none_past (row_words * word_bits) m (model_in model) r refl (leb-true atoms r t)))
+    (λ t. t ∙ sym (some_past (row_words * word_bits) m (model_in model) r refl h (leb-false atoms r t))))
+    ∙ ap (λ (k : ℕ). leb atoms (next (k * word_bits - m) (model_in model) m)) (sym (length_part 0 row_words model l))
 
-  -- else the model area decides
-  pub lack_model : row_area ≤ length o.all → row_area ≤ length o.any → ltb (length o.model) row_words ≡ short_system o
-  unfolding short_system
-  lack_model p q = sym (rw (le-ltb (length o.all) row_area p, le-ltb (length o.any) row_area q))
-
-  module _ (m : ℕ) where
-    abbrev start_in : Bool
-    start_in = within (row_words * word_bits) (model_in o.model) (λ k. ltb k m)
-
-    -- the count and both kinds of rows, each tested with the count
-    in_turn : formed_all o.all m && (formed_all o.any m && start_in) ≡ formed_system o m
-    unfolding formed_all formed_system
-    in_turn = each (leb m atoms) (formed_rows row_words atoms m o.all) (formed_rows row_words atoms m o.any) start_in
-      where
-        each : (a b c d : Bool) → a && b && (a && c && d) ≡ a && (b && (c && d))
-        each true b c d = refl
-        each false b c d = refl
-
-    -- `ok` and `also` are the tests of the rows
-    module _ (ok : Bool) (e : ok ≡ formed_all o.all m) where
-      pub ill_all : not ok ≡ true → false ≡ formed_system o m
-      ill_all f = ap (λ (b : Bool). b && (formed_all o.any m && start_in)) (sym (not-true ok f) ∙ e) ∙ in_turn
-
-      module _ (f : not ok ≡ false) where
-        all_in : formed_all o.all m ≡ true
-        all_in = sym e ∙ not-false ok f
-
-        module _ (also : Bool) (g : also ≡ formed_all o.any m) where
-          any_decides : also && start_in ≡ formed_system o m
-          any_decides = ap₂ (λ (a b : Bool). a && (b && start_in)) (sym all_in) g ∙ in_turn
-
-          pub ill_any : not also ≡ true → false ≡ formed_system o m
-          ill_any h = ap (λ (b : Bool). b && start_in) (sym (not-true also h)) ∙ any_decides
-
-          -- else the start set decides, r being its first atom at or past the count
-          pub start_decides : (r : ℕ) → not also ≡ false → r ≡ next (row_words * word_bits - m) (model_in o.model) m
-              → leb atoms r ≡ formed_system o m
-          start_decides r h q =
-              decided ∙ ap (λ (b : Bool). b && start_in) (sym (not-false also h)) ∙ any_decides
-            where
-              decided : leb atoms r ≡ start_in
-              decided =
-                  either (leb atoms r)
-                  (λ t. t ∙ sym (none_past (row_words * word_bits) m (model_in o.model) r q (leb-true atoms r t)))
-                  (λ t. t ∙ sym (some_past (row_words * word_bits) m (model_in o.model) r q (passed o.all m ok e f).0 (leb-false atoms r t)))
-
--- `low` is whether an area is too short, `ok` whether rows and start set are in order
-module _ (o : RowAreas) (m : ℕ) (low : Bool) (e : low ≡ short_system o) where
+module _ (o : RowAreas) (m : ℕ) where
   -- an area too short: 1
-  pub call_short : low ≡ true → record { number = 1; rounds = 0; model = o.model } ≡ rounds_call o m
+  call_short : short_system o ≡ true → rounds_call o m ≡ rounds_refusal 1 o.model
   unfolding rounds_call
-  call_short f = sym (pick_true _ _ (sym e ∙ f))
+  call_short e = pick_true _ _ e
 
-  module _ (f : low ≡ false) (ok : Bool) (g : ok ≡ formed_system o m) where
-    -- ill formed: 10
-    pub call_ill : not ok ≡ true → record { number = 10; rounds = 0; model = o.model } ≡ rounds_call o m
-    unfolding rounds_call
-    call_ill h = sym (pick_false _ _ (sym e ∙ f) ∙ pick_false _ _ (sym g ∙ not-true ok h))
+  pub short_all : length o.all < row_area → rounds_call o m ≡ rounds_refusal 1 o.model
+  unfolding short_system
+  short_all l = call_short (or_left (ltb (length o.any) row_area || ltb (length o.model) row_words) (lt-ltb (length o.all) row_area l))
 
-    -- neither
-    pub judged : not ok ≡ false → RoundsLong o × (formed_system o m ≡ true)
-    judged h = (long_at o (sym e ∙ f), sym g ∙ not-false ok h)
+  pub short_any : length o.any < row_area → rounds_call o m ≡ rounds_refusal 1 o.model
+  unfolding short_system
+  short_any l =
+      call_short (or_right (ltb (length o.all) row_area) (or_left (ltb (length o.model) row_words) (lt-ltb (length o.any) row_area l)))
+
+  pub short_model : length o.model < row_words → rounds_call o m ≡ rounds_refusal 1 o.model
+  unfolding short_system
+  short_model l =
+      call_short (or_right (ltb (length o.all) row_area) (or_right (ltb (length o.any) row_area) (lt-ltb (length o.model) row_words l)))
+
+  -- the count and both kinds of rows, each tested with the count, and the start set
+  pub in_turn : formed_system o m ≡ formed_all o.all m && (formed_all o.any m && start_in o.model m)
+  unfolding formed_all formed_system start_in
+  in_turn = sym (each (leb m atoms) (formed_rows row_words atoms m o.all) (formed_rows row_words atoms m o.any) (start_in o.model m))
+    where
+      each : (a b c d : Bool) → a && b && (a && c && d) ≡ a && (b && (c && d))
+      each true b c d = refl
+      each false b c d = refl
+
+  -- rows in order have a count within its limit; the first part says nothing: it shows `grind` what to match
+  pub system_few : formed_system o m ≡ true → (formed_system o m ≡ formed_system o m) × (m ≤ atoms)
+  system_few e = (refl, few o m e)
+
+  -- ill formed: 10
+  pub call_ill : row_area ≤ length o.all → row_area ≤ length o.any → row_words ≤ length o.model → formed_system o m ≡ false
+      → rounds_call o m ≡ rounds_refusal 10 o.model
+  unfolding rounds_call
+  call_ill la ly lm e = pick_false _ _ (long_make o (la, ly, lm)) ∙ pick_false _ _ e
+
+-- the laws of `judge`
+pub ruleset judging = (short_all, short_any, short_model, in_turn, start_decides, keeps, call_ill)
 
 module _ (o : RowAreas) (m : ℕ) where
   abbrev s : System
@@ -108,31 +95,40 @@ module _ (o : RowAreas) (m : ℕ) where
     unfolding rounds_call
     past_tests = pick_false _ _ (long_make o l) ∙ pick_true _ _ formed
 
-    -- `after` is the set after round one, over what stood in `room`; `inside` is whether the start set lies within it
-    module _ (room after : List ℕ) (w : after ≡ with_model (below m (next_set o.all o.any o.model)) room)
-        (inside : Bool) (q : inside ≡ within (row_words * word_bits) (model_in o.model) (model_in after)) where
+    abbrev first_set : Set
+    first_set = below m (next_set o.all o.any o.model)
+
+    -- `after` has the set after round one; `inside` is whether the start set lies within it
+    module _ (after : List ℕ) (w : after ≡ pack row_words first_set)
+        (inside : Bool) (q : inside ≡ within (length (take row_words o.model) * word_bits) (row (take row_words o.model)) (row after)) where
+      after_long : length after ≡ row_words
+      after_long = ap length w ∙ length_pack row_words first_set
+
+      after_is : after ≡ with_model first_set after
+      after_is = whole_model first_set after after after_long w
+
       start_kept_lem : start_kept s ≡ inside
       start_kept_lem =
           sym (kept_test s (row_words * word_bits) (model_in o.model) (model_in after) (few o m formed) (start_ends o m formed)
-          (λ i l. refl) (made_round o m formed o.model room after w))
+          (λ i l. refl) (made_round o m formed o.model after after after_is))
+          ∙ ap₂ (λ (k : ℕ) (ws : List ℕ). within (k * word_bits) (model_in o.model) (row ws))
+          (sym (length_part 0 row_words o.model l.2)) (part_next after after_long)
           ∙ sym q
 
       -- a start atom is lost: 11
-      pub call_lost : not inside ≡ true → record { number = 11; rounds = 0; model = o.model } ≡ rounds_call o m
-      call_lost k = sym (past_tests ∙ pick_false _ _ (start_kept_lem ∙ not-true inside k))
+      pub call_lost : inside ≡ false → record { number = 11; rounds = 0; model = o.model } ≡ rounds_call o m
+      call_lost k = sym (past_tests ∙ pick_false _ _ (start_kept_lem ∙ k))
 
-      module _ (k : not inside ≡ false) where
+      module _ (k : inside ≡ true) where
         -- the rounds may go on
-        pub ready : row_words ≤ length room → RoundsReady o after m
-        ready b =
-            let made : Set = below m (next_set o.all o.any o.model) in
-            record {
-              long = l;
-              room = omega (arith, ap length w, length_model made room b);
-              formed = formed;
-              kept = start_kept_lem ∙ not-false inside k;
-              made = w ∙ sym (model_again made made room) ∙ ap (with_model made) (sym w);
-            }
+        pub ready : RoundsReady o after m
+        ready = record {
+          long = l;
+          room = omega (arith, after_long);
+          formed = formed;
+          kept = start_kept_lem ∙ k;
+          made = after_is;
+        }
 
         -- the rounds: 0
         pub call_done : (t : ℕ) (out : List ℕ) → t ≡ rounds_of s → out ≡ with_model (below m (held_by s)) o.model
@@ -140,4 +136,4 @@ module _ (o : RowAreas) (m : ℕ) where
         unfolding rounds_made
         call_done t out u v =
             ap₂ (λ (a : ℕ) (b : List ℕ). record { number = 0; rounds = a; model = b }) u v
-            ∙ sym (past_tests ∙ pick_true _ _ (start_kept_lem ∙ not-false inside k))
+            ∙ sym (past_tests ∙ pick_true _ _ (start_kept_lem ∙ k))

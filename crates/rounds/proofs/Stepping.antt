@@ -1,40 +1,54 @@
 -- One round: whether an atom joins, and the set after another built atom by atom.
 -- Assumes nothing.
-use mathlib.Core.Path.{◌≡◌, sym, ap, ◌∙◌}
+use mathlib.Core.Path.{◌≡◌, refl, sym, ap, ◌∙◌}
 use mathlib.Core.Bool.{Bool, true, false, not, ◌&&◌, ◌||◌, or-true, or-false, and-false}
 use mathlib.Core.List.{List}
 use Prim.Native.Nat.{ℕ, ◌+◌, ◌*◌, ◌≤◌, ◌<◌}
-use native.Mathlib.Nat.{le_antisymm}
 use native.Mathlib.Omega.{arith}
 use lib.Dec.{eqb, ltb}
+use lib.ListN.{length, take, replicate}
 use borrow.Author.Tests.{not-false, lt-ltb, le-ltb, ltb-true, ltb-false, eqb-true, eqb-false}
-use Rattle.limits.specs.Book.{atoms, word_bits, row_words}
+use Rattle.limits.specs.Book.{atoms, word_bits, row_words, row_area}
 use Rattle.sets.specs.Set.{Set, exists, within, meets, only, union, empty_set}
 use Rattle.sets.proofs.Logic.{either, of_not, pick_true, pick_false}
-use Rattle.areas.specs.Area.{part, put, cleared}
+use Rattle.areas.specs.Area.{part}
+use Rattle.areas.proofs.Parts.{length_part}
 use Rattle.words.specs.Row.{row, pack}
+use Rattle.words.proofs.Rows.{length_pack, row_pack, pack_same, pack_empty}
 use Rattle.program.specs.System.{any_head, all_step, round}
 use Rattle.systems.specs.Rows.{below}
-use Rattle.systems.specs.Rounds.{model_in, with_model}
-use Rattle.systems.proofs.Running.{model_again, model_same, model_joined, model_none, model_put}
+use Rattle.systems.specs.Rounds.{model_in}
 use Rattle.rounds.specs.Step.{next_set}
 
--- atom i, whose rows begin at place `at`; `none` is whether its "any" row is empty
-module _ (all any v : List ℕ) (i at : ℕ) (e : at ≡ i * row_words) (none : Bool)
-    (f : none ≡ not (exists (row_words * word_bits) (row (part at row_words any)))) (r : Bool) where
-  -- where it is, the "all" row decides
-  pub joins_all : none ≡ true → r ≡ within (row_words * word_bits) (row (part at row_words all)) (model_in v) → r ≡ next_set all any v i
+-- atom i, whose rows lie in areas of their stated size
+module _ (all any v : List ℕ) (i : ℕ) (l : i < atoms) where
+  row_long : (area : List ℕ) → row_area ≤ length area → length (part (i * row_words) row_words area) ≡ row_words
+  row_long area h = length_part (i * row_words) row_words area (omega arith)
+
+  abbrev all_row : List ℕ
+  all_row = part (i * row_words) row_words all
+
+  abbrev any_row : List ℕ
+  any_row = part (i * row_words) row_words any
+
+  -- where its "any" row is empty, the "all" row decides
+  pub joins_all : row_area ≤ length all → row_area ≤ length any → not (exists (length any_row * word_bits) (row any_row)) ≡ true
+      → next_set all any v i ≡ within (length all_row * word_bits) (row all_row) (row (take row_words v))
   unfolding next_set round any_head all_step
-  joins_all g h =
-      h ∙ ap (λ (k : ℕ). within atoms (row (part k row_words all)) (model_in v)) e
-      ∙ sym (pick_false _ _ (ap (λ (k : ℕ). exists atoms (row (part k row_words any))) (sym e) ∙ of_not _ (sym f ∙ g)))
+  joins_all p q g =
+      pick_false _ _ (ap (λ (k : ℕ). exists (k * word_bits) (row any_row)) (sym (row_long any q)) ∙ of_not _ g)
+      ∙ ap (λ (k : ℕ). within (k * word_bits) (row all_row) (model_in v)) (sym (row_long all p))
 
   -- else the "any" row does
-  pub joins_any : none ≡ false → r ≡ meets (row_words * word_bits) (row (part at row_words any)) (model_in v) → r ≡ next_set all any v i
+  pub joins_any : row_area ≤ length any → not (exists (length any_row * word_bits) (row any_row)) ≡ false
+      → next_set all any v i ≡ meets (length any_row * word_bits) (row any_row) (row (take row_words v))
   unfolding next_set round any_head
-  joins_any g h =
-      h ∙ ap (λ (k : ℕ). meets atoms (row (part k row_words any)) (model_in v)) e
-      ∙ sym (pick_true _ _ (ap (λ (k : ℕ). exists atoms (row (part k row_words any))) (sym e) ∙ not-false _ (sym f ∙ g)))
+  joins_any q g =
+      pick_true _ _ (ap (λ (k : ℕ). exists (k * word_bits) (row any_row)) (sym (row_long any q)) ∙ not-false _ g)
+      ∙ ap (λ (k : ℕ). meets (k * word_bits) (row any_row) (model_in v)) (sym (row_long any q))
+
+-- the laws of `joins`
+pub ruleset joining = (joins_all, joins_any)
 
 -- numbers below i + 1 but for i are those below i
 one_more : (i k : ℕ) → (k ≡ i → ⊥) → ltb k i ≡ ltb k (i + 1)
@@ -45,56 +59,59 @@ one_more i k n =
     past : i ≤ k → i + 1 ≤ k
     past l = either (ltb i k) (λ t. omega (arith, ltb-true i k t)) (λ t. absurd (n (omega (arith, ltb-false i k t))))
 
--- an area cleared has no atom
-clear_model : (f : Set) (old new : List ℕ) → new ≡ cleared 0 row_words old → new ≡ with_model (below 0 f) old
-clear_model f old new e =
-    e ∙ model_none old ∙ model_same empty_set (below 0 f) old (λ k l. sym (nothing k))
-  where
-    nothing : (k : ℕ) → below 0 f k ≡ false
-    nothing k = ap (λ (b : Bool). b && f k) (le-ltb k 0 (omega arith))
+-- the words of the set after v, with the atoms below i in
+pub gathered : List ℕ → List ℕ → List ℕ → ℕ → List ℕ
+gathered all any v i = pack row_words (below i (next_set all any v))
 
--- `next` after the atoms below i, in the area `new` that was cleared
-module _ (f : Set) (new : List ℕ) where
-  -- before the first atom
-  pub step_none : (old : List ℕ) → new ≡ cleared 0 row_words old → new ≡ with_model (below 0 f) new
-  step_none old e =
-      let q : new ≡ with_model (below 0 f) old = clear_model f old new e in
-      q ∙ sym (model_again (below 0 f) (below 0 f) old) ∙ ap (with_model (below 0 f)) (sym q)
+module _ (all any v : List ℕ) where
+  abbrev f : Set
+  f = next_set all any v
 
-  -- past the last
-  pub step_all : (old next : List ℕ) (i m : ℕ) → new ≡ cleared 0 row_words old → i ≤ m → m ≤ i → next ≡ with_model (below i f) new
-      → next ≡ with_model (below m f) old
-  step_all old next i m e l h n =
-      n ∙ ap (λ (k : ℕ). with_model (below k f) new) (le_antisymm l h) ∙ ap (with_model (below m f)) (clear_model f old new e)
-      ∙ model_again (below m f) (below 0 f) old
+  -- no atom yet
+  pub gathered_none : gathered all any v 0 ≡ replicate row_words 0
+  unfolding gathered
+  gathered_none = pack_same row_words (below 0 f) empty_set (λ k l. nothing k) ∙ pack_empty row_words
+    where
+      nothing : (k : ℕ) → below 0 f k ≡ false
+      nothing k = ap (λ (b : Bool). b && f k) (le-ltb k 0 (omega arith))
 
-  module _ (i : ℕ) (next : List ℕ) (e : next ≡ with_model (below i f) new) (r : Bool) (g : r ≡ f i) where
-    -- an atom that does not join
-    pub step_out : r ≡ false → next ≡ with_model (below (i + 1) f) new
-    step_out h = e ∙ model_same (below i f) (below (i + 1) f) new (λ k l. on k)
-      where
-        on : (k : ℕ) → below i f k ≡ below (i + 1) f k
-        on k =
-            either (eqb k i)
-            (λ t.
-            let z : f k ≡ false = ap f (eqb-true k i t) ∙ sym g ∙ h in
-            ap (λ (b : Bool). ltb k i && b) z ∙ and-false (ltb k i) ∙ sym (ap (λ (b : Bool). ltb k (i + 1) && b) z ∙ and-false (ltb k (i + 1))))
-            (λ t. ap (λ (b : Bool). b && f k) (one_more i k (eqb-false k i t)))
+  -- an atom that does not join
+  pub gathered_out : (i : ℕ) → f i ≡ false → gathered all any v (i + 1) ≡ gathered all any v i
+  unfolding gathered
+  gathered_out i z = pack_same row_words (below (i + 1) f) (below i f) (λ k l. sym (on k))
+    where
+      on : (k : ℕ) → below i f k ≡ below (i + 1) f k
+      on k =
+          either (eqb k i)
+          (λ t.
+          let y : f k ≡ false = ap f (eqb-true k i t) ∙ z in
+          ap (λ (b : Bool). ltb k i && b) y ∙ and-false (ltb k i) ∙ sym (ap (λ (b : Bool). ltb k (i + 1) && b) y ∙ and-false (ltb k (i + 1))))
+          (λ t. ap (λ (b : Bool). b && f k) (one_more i k (eqb-false k i t)))
 
-    -- an atom that joins
-    pub step_in : (more : List ℕ) → r ≡ true → more ≡ put 0 (pack row_words (union (model_in next) (only i))) next
-        → more ≡ with_model (below (i + 1) f) new
-    step_in more h n =
-        n ∙ model_put (union (model_in next) (only i)) next ∙ model_joined i (below i f) next new e
-        ∙ model_same (union (below i f) (only i)) (below (i + 1) f) new (λ k l. on k)
-      where
-        on : (k : ℕ) → union (below i f) (only i) k ≡ below (i + 1) f k
-        on k =
-            either (eqb i k)
-            (λ t.
-            let q : i ≡ k = eqb-true i k t in
-            ap (λ (b : Bool). below i f k || b) t ∙ or-true (below i f k)
-            ∙ sym (ap (λ (b : Bool). b && f k) (lt-ltb k (i + 1) (omega arith)) ∙ ap f (sym q) ∙ sym g ∙ h))
-            (λ t.
-            ap (λ (b : Bool). below i f k || b) t ∙ or-false (below i f k)
-            ∙ ap (λ (b : Bool). b && f k) (one_more i k (λ q. eqb-false i k t (sym q))))
+  -- an atom that joins
+  pub gathered_in : (i : ℕ) → f i ≡ true
+      → gathered all any v (i + 1) ≡ pack (length (gathered all any v i)) (union (row (gathered all any v i)) (only i))
+  unfolding gathered
+  gathered_in i z =
+      pack_same row_words (below (i + 1) f) (union (row (pack row_words (below i f))) (only i))
+      (λ k l. sym (ap (λ (b : Bool). b || only i k) (row_pack row_words (below i f) k l) ∙ on k))
+      ∙ ap (λ (w : ℕ). pack w (union (row (pack row_words (below i f))) (only i))) (sym (length_pack row_words (below i f)))
+    where
+      on : (k : ℕ) → union (below i f) (only i) k ≡ below (i + 1) f k
+      on k =
+          either (eqb i k)
+          (λ t.
+          let q : i ≡ k = eqb-true i k t in
+          ap (λ (b : Bool). below i f k || b) t ∙ or-true (below i f k)
+          ∙ sym (ap (λ (b : Bool). b && f k) (lt-ltb k (i + 1) (omega arith)) ∙ ap f (sym q) ∙ z))
+          (λ t.
+          ap (λ (b : Bool). below i f k || b) t ∙ or-false (below i f k)
+          ∙ ap (λ (b : Bool). b && f k) (one_more i k (λ q. eqb-false i k t (sym q))))
+
+  -- all of them
+  pub gathered_all : (m : ℕ) → gathered all any v m ≡ pack row_words (below m f)
+  unfolding gathered
+  gathered_all m = refl
+
+-- the laws of `step`
+pub ruleset stepping_on = (gathered_none, gathered_out, gathered_in, gathered_all)

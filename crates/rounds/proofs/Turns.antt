@@ -1,10 +1,16 @@
 -- The loop of rounds over rows.
 -- Assumes nothing.
-use mathlib.Core.Path.{◌≡◌, refl, sym}
+use mathlib.Core.Path.{◌≡◌, refl, sym, ap, ap₂, ◌∙◌}
 use mathlib.Core.Bool.{Bool, true, false, not}
-use mathlib.Core.List.{List}
-use Prim.Native.Nat.{ℕ, ◌*◌, ◌≤◌}
+use mathlib.Core.List.{List, ◌++◌}
+use Prim.Native.Nat.{ℕ, ◌+◌, ◌*◌, ◌≤◌}
 use native.Mathlib.Omega.{arith}
+use lib.ListN.{length, take, drop}
+use Rattle.areas.specs.Area.{part, put, begun}
+use Rattle.areas.proofs.Parts.{length_part, part_whole}
+use Rattle.areas.proofs.Begun.{begun_whole, put_front}
+use Rattle.words.specs.Row.{row, pack}
+use Rattle.words.proofs.Rows.{length_pack}
 use Rattle.limits.specs.Book.{atoms, word_bits, row_words}
 use Rattle.sets.specs.Set.{Set, Same, same, empty_set}
 use Rattle.sets.proofs.Logic.{either}
@@ -15,8 +21,33 @@ use Rattle.systems.specs.Rounds.{model_in, with_model, system_in, formed_system}
 use Rattle.systems.specs.Claims.{RoundsFormed}
 use Rattle.systems.proofs.Formed.{round_fewer}
 use Rattle.systems.proofs.Running.{model_known, Ends, in_order, round_mono, start_rises}
-use Rattle.systems.proofs.Turns.{Stepping, Turn, made, turn_begin, turn_count, turn_model, turn_next}
+use Rattle.systems.proofs.Turns.{Stepping, Turn, made, turn_begin, turn_less, turn_on, turn_count, turn_model}
 use Rattle.rounds.specs.Step.{next_set, RoundsReady}
+
+-- The words of a set, as an area of its own.
+
+pub part_next : (next : List ℕ) → length next ≡ row_words → part 0 row_words next ≡ next
+part_next = part_whole row_words
+
+pub whole_model : (f : Set) (next new : List ℕ) → length next ≡ row_words → new ≡ pack row_words f → new ≡ with_model f next
+unfolding with_model
+whole_model f next new l e = e ∙ sym (begun_whole (pack row_words f) next (omega (arith, length_pack row_words f)))
+
+-- copied to the front of the model area
+pub copied : (model next front : List ℕ) → length next ≡ row_words → front ≡ next
+    → front ++ drop row_words model ≡ put 0 (part 0 row_words next) model
+unfolding begun
+copied model next front l e =
+    ap₂ (λ (xs : List ℕ) (k : ℕ). xs ++ drop k model) (e ∙ sym (part_next next l)) (sym (ap length (part_next next l) ∙ l))
+    ∙ sym (put_front (part 0 row_words next) model)
+
+-- and compared with it
+pub compared : (model next : List ℕ) (b : Bool) → row_words ≤ length model → length next ≡ row_words
+    → b ≡ same (length (take row_words model) * word_bits) (row (take row_words model)) (row next)
+    → b ≡ same (row_words * word_bits) (model_in model) (model_in next)
+compared model next b h l e =
+    e ∙ ap₂ (λ (k : ℕ) (ws : List ℕ). same (k * word_bits) (model_in model) (row ws))
+    (length_part 0 row_words model h) (sym (part_next next l))
 
 -- rows and start set in order
 module _ (o : RowAreas) (m : ℕ) (formed : formed_system o m ≡ true) where
@@ -73,22 +104,32 @@ module _ (o : RowAreas) (next₀ : List ℕ) (m : ℕ) (p : RoundsReady o next�
       turn_begin m (round s) (model_in model₀) after (stepping o next₀ m p) model₀ next₀
       (sym (model_known model₀ (in_range model₀ k) p.long.2)) (start_ends o m p.formed) (λ i l. refl) p.made
 
-  -- past the last, where a round changed nothing
+  -- `next` is the set after the model's, and `still` is whether they are the same
   module _ (model next : List ℕ) (t : ℕ) (c : Turn m (round s) (model_in model₀) after model₀ next₀ model next t)
-      (still : Bool) (e : still ≡ same (row_words * word_bits) (model_in model) (model_in next)) (d : not still ≡ false) where
-    -- the count is the number of rounds
-    pub last_count : t ≡ rounds_of s
+      (h : row_words ≤ length model) (n : length next ≡ row_words) (still : Bool)
+      (e : still ≡ same (length (take row_words model) * word_bits) (row (take row_words model)) (row next)) where
+    b : Stepping m (round s) (model_in model₀) after
+    b = stepping o next₀ m p
+
+    sets : still ≡ same (row_words * word_bits) (model_in model) (model_in next)
+    sets = compared model next still h n e
+
+    -- they are not: the count stays small, and a further round is made
+    pub turn_small : still ≡ false → t + 1 ≤ m + 1
+    turn_small d = turn_less m (round s) (model_in model₀) after b model₀ next₀ model next t c still sets (ap not d)
+
+    pub turn_more : still ≡ false → (front more : List ℕ) → front ≡ next → more ≡ pack row_words (below m (after (front ++ drop row_words model)))
+        → Turn m (round s) (model_in model₀) after model₀ next₀ (front ++ drop row_words model) more (t + 1)
+    turn_more d front more f g =
+        turn_on m (round s) (model_in model₀) after b model₀ next₀ model next t c still (front ++ drop row_words model) more sets (ap not d)
+        (copied model next front n f) (whole_model (below m (after (front ++ drop row_words model))) next more n g)
+
+    -- they are: the count is the number of rounds
+    pub last_count : still ≡ true → t ≡ rounds_of s
     unfolding rounds_of
-    last_count =
-        turn_count m (round s) (model_in model₀) after (stepping o next₀ m p) model₀ next₀ model next t c still e d
+    last_count d = turn_count m (round s) (model_in model₀) after b model₀ next₀ model next t c still sets (ap not d)
 
-    -- and the set reached is in both areas
-    pub last_model : model ≡ with_model (below m (held_by s)) model₀
+    -- and the set reached is in the model area
+    pub last_model : still ≡ true → model ≡ with_model (below m (held_by s)) model₀
     unfolding held_by
-    last_model =
-        turn_model m (round s) (model_in model₀) after (stepping o next₀ m p) model₀ next₀ model next t c still e d
-
-    pub last_next : next ≡ with_model (below m (held_by s)) next₀
-    unfolding held_by
-    last_next =
-        turn_next m (round s) (model_in model₀) after (stepping o next₀ m p) model₀ next₀ model next t c still e d
+    last_model d = turn_model m (round s) (model_in model₀) after b model₀ next₀ model next t c still sets (ap not d)

@@ -1,133 +1,155 @@
 // The public call that makes the rounds over rows, from a start set, and its work without the tests.
 #![tactic(auto)]
 
-ghost use Rattle.std.specs.Prelude.{◌≡◌, true, ◌<◌, ◌≤◌, length};
+ghost use Rattle.std.specs.Prelude.{◌≡◌, true, ◌<◌, ◌≤◌, length, IfOk, IfErr};
 ghost use Rattle.limits.specs.Book.{atoms, row_words};
+ghost use Rattle.limits.specs.Refusal.{number_of, number_in, count_in};
+ghost use Rattle.words.specs.Row.{pack};
 ghost use Rattle.systems.specs.Rows.{below};
 ghost use Rattle.program.specs.System.{rounds_of, held_by};
-ghost use Rattle.systems.specs.Rounds.{with_model, system_in, short_system, formed_system, rounds_call};
+ghost use Rattle.systems.specs.Rounds.{with_model, system_in, formed_system, rounds_call};
 ghost use Rattle.systems.specs.Claims.{RoundsLong};
+ghost use Rattle.rounds.specs.Rows.{with_start};
 ghost use Rattle.rounds.specs.Step.{next_set, RoundsReady};
 
 use limits::{Book, Refusal};
+use rows::row;
+use std::marker::Model;
 
-// The number of a refusal, 0 for none, and the rounds made.
-#[derive(Clone, Copy)]
-pub struct Answer {
-    pub number: usize,
-    pub rounds: usize,
+// Rows of their stated size, and how many of them count.
+#[derive(Drop)]
+struct System<'a> {
+    all: &'a [u64],
+    any: &'a [u64],
+    count: usize,
 }
 
-// Whether an area is shorter than its stated size.
-fn too_short(all: &[u64], any: &[u64], model: &[u64]) -> bool
-    ensures { result ≡ short_system (record { all = all.now; any = any.now; model = model.now }) }
-{
-    if all.len() < Book::ROW_AREA {
-        return true;
-    }
-    if any.len() < Book::ROW_AREA {
-        return true;
-    }
-    model.len() < Book::ROW_WORDS
+impl<'a> Model for System<'a> {
+    ghost use Rattle.std.specs.Prelude.{◌≤◌, length};
+    ghost use Rattle.limits.specs.Book.{atoms, row_area};
+    ghost use Rattle.rounds.specs.Rows.{Rows};
+
+    ghost Value = { Rows };
+
+    ghost view = { λ s. record { all = s.all.now; any = s.any.now; count = s.count } };
+
+    ghost invariant = { λ s. (row_area ≤ length s.all.now) × (row_area ≤ length s.any.now) × (s.count ≤ atoms) };
 }
 
-// Whether the count is within its limit, and neither a bit, of the start set too, nor a row lies at or past it.
-fn well_formed(all: &[u64], any: &[u64], model: &[u64], count: usize) -> bool
-    requires { RoundsLong (record { all = all.now; any = any.now; model = model.now }) }
-    ensures { result ≡ formed_system (record { all = all.now; any = any.now; model = model.now }) count }
-{
-    if !rowcheck::formed(all, count) {
-        return false;
-    }
-    if !rowcheck::formed(any, count) {
-        return false;
-    }
-    Book::ATOMS <= rows::walk::next(model, 0, Book::ROW_WORDS, count)
-}
-
-// Whether atom i is in the set after v: an "any" row that is not empty has to meet v, else the "all" row to lie within it.
-fn joins(all: &[u64], any: &[u64], v: &[u64], i: usize) -> bool
-    requires { (i < atoms) × RoundsLong (record { all = all.now; any = any.now; model = v.now }) }
-    ensures { result ≡ next_set all.now any.now v.now i }
-{
-    let at = Book::row_at(i);
-    if rows::read::empty(any, at, Book::ROW_WORDS) {
-        return rows::read::within(all, at, v, 0, Book::ROW_WORDS);
-    }
-    rows::read::meets(any, at, v, 0, Book::ROW_WORDS)
-}
-
-// One round over the counted atoms: `next` gets the set after v.
-fn step(all: &[u64], any: &[u64], v: &[u64], next: &mut [u64], count: usize)
-    requires { (count ≤ atoms) × RoundsLong (record { all = all.now; any = any.now; model = v.now }) × (row_words ≤ length next.old) }
-    ensures { next.new
-        ≡ with_model (below count (next_set all.now any.now v.now)) next.old }
-{
-    rows::clear::clear_tail64(next, 0, Book::ROW_WORDS);
-    let mut i = 0;
-    while i < count {
-        if joins(all, any, v, i) {
-            rows::write::insert(next, 0, Book::ROW_WORDS, i);
+impl<'a> System<'a> {
+    // Judges the areas: each has its stated size, the count is within its limit, and neither a bit, of the start set too, nor a row lies at or
+    // past it.
+    #[tactic(auto, using(crate::proofs::Calls::judging))]
+    fn judge(
+        all: &'a [u64],
+        any: &'a [u64],
+        model: &[u64],
+        count: usize,
+    ) -> Result<System<'a>, Refusal>
+        ensures ok { IfOk result (λ s. (s ≡ record { all = all.now; any = any.now; count = count })
+            × RoundsLong (record { all = all.now; any = any.now; model = model.now })
+            × (formed_system (record { all = all.now; any = any.now; model = model.now }) count ≡ true)) }
+        ensures err { IfErr result (λ e. record { number = number_of e; rounds = 0; model = model.now }
+            ≡ rounds_call (record { all = all.now; any = any.now; model = model.now }) count) }
+    {
+        if all.len() < Book::ROW_AREA
+            || any.len() < Book::ROW_AREA
+            || model.len() < Book::ROW_WORDS
+        {
+            return Err(Refusal::ShortArea);
         }
-        i += 1;
+        let formed = rowcheck::formed(all, count)
+            && rowcheck::formed(any, count)
+            && Book::ATOMS <= row::next(&model[..Book::ROW_WORDS], count);
+        if !formed {
+            return Err(Refusal::IllFormed);
+        }
+        Ok(System { all, any, count })
     }
-}
 
-// The rounds from the model area on, `next` being the set after it: counted up to and with the first that changes nothing.
-fn until_still(all: &[u64], any: &[u64], model: &mut [u64], next: &mut [u64], count: usize) -> usize
-    requires { RoundsReady (record { all = all.now; any = any.now; model = model.old }) next.old count }
-    ensures rounds { result
-        ≡ rounds_of (system_in (record { all = all.now; any = any.now; model = model.old }) count) }
-    ensures model { model.new ≡ with_model (below count (held_by
-        (system_in (record { all = all.now; any = any.now; model = model.old }) count))) model.old }
-    ensures next { next.new ≡ with_model (below count (held_by
-        (system_in (record { all = all.now; any = any.now; model = model.old }) count))) next.old }
-{
-    let mut made = 1;
-    while !rows::read::equal(model, 0, next, 0, Book::ROW_WORDS) {
-        rows::write::copy(model, 0, next, 0, Book::ROW_WORDS);
-        step(all, any, model, next, count);
-        made += 1;
+    // Whether atom i is in the set after v: an "any" row that is not empty has to meet v, else the "all" row to lie within it.
+    #[tactic(auto, using(crate::proofs::Stepping::joining))]
+    fn joins(&self, v: &[u64], i: usize) -> bool
+        requires { (i < atoms) × (row_words ≤ length v.now) }
+        ensures { result ≡ next_set self.now.all self.now.any v.now i }
+    {
+        let at = Book::row_at(i);
+        let v = &v[..Book::ROW_WORDS];
+        let any = &self.any[at..at + Book::ROW_WORDS];
+        if row::empty(any) {
+            return row::within(&self.all[at..at + Book::ROW_WORDS], v);
+        }
+        row::meets(any, v)
     }
-    made
+
+    // One round over the counted atoms: the set after v.
+    #[tactic(auto, using(crate::proofs::Stepping::stepping_on))]
+    fn step(&self, v: &[u64]) -> [u64; Book::ROW_WORDS]
+        requires { row_words ≤ length v.now }
+        ensures { result ≡ pack row_words (below self.now.count (next_set self.now.all self.now.any v.now)) }
+    {
+        let mut next = [0; Book::ROW_WORDS];
+        for i in 0..self.count {
+            if self.joins(v, i) {
+                row::insert(&mut next, i);
+            }
+        }
+        next
+    }
+
+    // The rounds from the model area on, `next` being the set after it: counted up to and with the first that changes nothing.
+    fn until_still(&self, model: &mut [u64], mut next: [u64; Book::ROW_WORDS]) -> usize
+        requires { RoundsReady (with_start self.now model.old) next self.now.count }
+        ensures rounds { result ≡ rounds_of (system_in (with_start self.now model.old) self.now.count) }
+        ensures model { model.new
+            ≡ with_model (below self.now.count (held_by (system_in (with_start self.now model.old) self.now.count))) model.old }
+    {
+        let mut made = 1;
+        while !row::equal(&model[..Book::ROW_WORDS], &next) {
+            model[..Book::ROW_WORDS].copy_from_slice(&next);
+            next = self.step(model);
+            made += 1;
+        }
+        made
+    }
+
+    // The rounds from the start set in the model area, which then has the last set; a lost start atom leaves it as it was.
+    fn run(&self, model: &mut [u64]) -> Result<usize, Refusal>
+        requires { RoundsLong (with_start self.now model.old)
+            × (formed_system (with_start self.now model.old) self.now.count ≡ true) }
+        ensures { record { number = number_in result; rounds = count_in (λ r. r) result; model = model.new }
+            ≡ rounds_call (with_start self.now model.old) self.now.count }
+    {
+        let next = self.step(model);
+        if !row::within(&model[..Book::ROW_WORDS], &next) {
+            return Err(Refusal::StartLost);
+        }
+        Ok(self.until_still(model, next))
+    }
 }
 
 // Makes the rounds over the counted atoms, from the start set in the model area, and leaves the last set there; a lost start atom leaves it
 // as it was. For a caller that knows rows and start set to be in order, as after standardising: they are not judged again.
-pub fn run_formed(all: &[u64], any: &[u64], model: &mut [u64], count: usize) -> Answer
+#[tactic(auto, using(crate::proofs::Calls::system_few))]
+pub fn run_formed(
+    all: &[u64],
+    any: &[u64],
+    model: &mut [u64],
+    count: usize,
+) -> Result<usize, Refusal>
     requires { RoundsLong (record { all = all.now; any = any.now; model = model.old })
         × (formed_system (record { all = all.now; any = any.now; model = model.old }) count ≡ true) }
-    ensures { record { number = result.number; rounds = result.rounds; model = model.new }
+    ensures { record { number = number_in result; rounds = count_in (λ r. r) result; model = model.new }
         ≡ rounds_call (record { all = all.now; any = any.now; model = model.old }) count }
 {
-    let mut next = [0u64; Book::ROW_WORDS];
-    step(all, any, model, &mut next, count);
-    if !rows::read::within(model, 0, &next, 0, Book::ROW_WORDS) {
-        return Answer {
-            number: Refusal::START_LOST,
-            rounds: 0,
-        };
-    }
-    let rounds = until_still(all, any, model, &mut next, count);
-    Answer { number: 0, rounds }
+    System { all, any, count }.run(model)
 }
 
 // Judges rows and start set, then makes the rounds; a refusal leaves the model area as it was.
-pub fn run(all: &[u64], any: &[u64], model: &mut [u64], count: usize) -> Answer
-    ensures { record { number = result.number; rounds = result.rounds; model = model.new }
+pub fn run(all: &[u64], any: &[u64], model: &mut [u64], count: usize) -> Result<usize, Refusal>
+    ensures { record { number = number_in result; rounds = count_in (λ r. r) result; model = model.new }
         ≡ rounds_call (record { all = all.now; any = any.now; model = model.old }) count }
 {
-    if too_short(all, any, model) {
-        return Answer {
-            number: Refusal::SHORT_AREA,
-            rounds: 0,
-        };
-    }
-    if !well_formed(all, any, model, count) {
-        return Answer {
-            number: Refusal::ILL_FORMED,
-            rounds: 0,
-        };
-    }
-    run_formed(all, any, model, count)
+    let system = System::judge(all, any, model, count)?;
+    system.run(model)
 }

@@ -1,22 +1,23 @@
 -- Rows that keep an atom count, for any width: a row below the count by its first atom at or past it, the rows past it as one long row.
 -- Assumes nothing.
-use mathlib.Core.Path.{◌≡◌, sym, ap, ap₂, ◌∙◌}
+use mathlib.Core.Path.{◌≡◌, refl, sym, ap, ap₂, ◌∙◌}
 use mathlib.Core.List.{List}
 use mathlib.Core.Bool.{Bool, true, false, not, ◌&&◌, ◌||◌, or_comm, or-false}
 use Prim.Native.Nat.{ℕ, zero, suc, ◌+◌, ◌-◌, ◌*◌, ◌/◌, ◌%◌, ◌≤◌, ◌<◌}
 use native.Mathlib.Nat.{le_antisymm, mul_assoc, add-mul, suc-mul, mul-le-mul_right}
 use native.Mathlib.Omega.{arith}
 use lib.Dec.{leb, ltb}
-use lib.ListN.{get_or}
-use borrow.Author.Tests.{ne_eqb, lt-ltb, le-ltb, ltb-false, leb-true, le-leb, lt-leb, not-false}
-use Rattle.limits.specs.Book.{atoms, word_bits, row_words}
+use lib.ListN.{length, get_or}
+use borrow.Author.Tests.{ne_eqb, lt-ltb, le-ltb, ltb-false, leb-true, le-leb, lt-leb}
+use Rattle.limits.specs.Book.{atoms, word_bits, row_words, row_area}
 use Rattle.sets.specs.Set.{Set, every, exists, within, next}
 use Rattle.sets.proofs.Logic.{either, clash, and_left, and_right}
 use Rattle.sets.proofs.Tests.{every_same, exists_same, not_exists, within_make}
-use Rattle.sets.proofs.Every.{every_on, every_off}
+use Rattle.sets.proofs.Every.{every_none, every_on, every_off}
 use Rattle.sets.proofs.Ranges.{every_add, exists_add}
 use Rattle.sets.proofs.Walk.{none_between, next_within}
 use Rattle.areas.specs.Area.{part}
+use Rattle.areas.proofs.Parts.{length_part}
 use Rattle.words.specs.Row.{bit, row}
 use Rattle.words.proofs.Rows.{row_part}
 use Rattle.systems.specs.Rows.{row_in, formed_rows}
@@ -72,11 +73,11 @@ module _ (w m : ℕ) (area : List ℕ) where
     er_in = er ∙ ap (λ (p : ℕ). next (w * word_bits - m) (row (part p w area)) m) ea
 
     -- there is none: the row passes
-    pub kept_on : every i kept ≡ true → w * word_bits ≤ r → every (i + 1) kept ≡ true
+    kept_on : every i kept ≡ true → w * word_bits ≤ r → every (i + 1) kept ≡ true
     kept_on h g = every_on i kept h (kept_low i l ∙ none_past (w * word_bits) m (row_in w area i) r er_in g)
 
     -- there is one: the row settles it
-    pub kept_off : (n : ℕ) → m ≤ n → m ≤ w * word_bits → r < w * word_bits → false ≡ formed_rows w n m area
+    kept_off : (n : ℕ) → m ≤ n → m ≤ w * word_bits → r < w * word_bits → false ≡ formed_rows w n m area
     unfolding formed_rows
     kept_off n h f g =
         every_off i n kept (omega arith) (kept_low i l ∙ some_past (w * word_bits) m (row_in w area i) r er_in f g)
@@ -103,11 +104,12 @@ module _ (w m : ℕ) (area : List ℕ) where
       ∙ every_same n _ (λ i. kept (m + i))
       (λ i l.
       ap not
-      (exists_same (w * word_bits) (λ a. row (part (m * w) (n * w) area) (i * (w * word_bits) + a)) (row_in w area (m + i)) (λ a h. same_bit n i a l h))
+      (exists_same (w * word_bits) (λ a. row (part (m * w) (n * w) area) (i * (w * word_bits) + a)) (row_in w area (m + i))
+      (λ a h. same_bit n i a l h))
       ∙ sym (kept_high (m + i) (omega arith)))
 
   -- all rows below the count passed: the words from row m on decide
-  pub kept_end : (i n at size : ℕ) (b : Bool) → i ≤ m → m ≤ i → m ≤ n → at ≡ m * w → size ≡ n * w → every i kept ≡ true
+  kept_end : (i n at size : ℕ) (b : Bool) → i ≤ m → m ≤ i → m ≤ n → at ≡ m * w → size ≡ n * w → every i kept ≡ true
       → b ≡ not (exists ((size - at) * word_bits) (row (part at (size - at) area))) → b ≡ formed_rows w n m area
   unfolding formed_rows
   kept_end i n at size b l g h ea es t e =
@@ -132,15 +134,50 @@ module _ (all : List ℕ) (m : ℕ) where
   count_over l = sym (ap (λ (b : Bool). b && formed_rows row_words atoms m all) (lt-leb m atoms l))
 
   -- else the rows decide
-  pub rows_decide : m ≤ atoms → formed_rows row_words atoms m all ≡ formed_all all m
+  rows_decide : m ≤ atoms → formed_rows row_words atoms m all ≡ formed_all all m
   unfolding formed_all
   rows_decide l = sym (ap (λ (b : Bool). b && formed_rows row_words atoms m all) (le-leb m atoms l))
 
-  -- `ok` is the test: passed, the count is within its limit and the rows keep it
-  pub passed : (ok : Bool) → ok ≡ formed_all all m → not ok ≡ false → (m ≤ atoms) × (formed_rows row_words atoms m all ≡ true)
+  -- In the area, row i's first bit at or past the count, else its end.
+  abbrev pub first_past : ℕ → ℕ
+  first_past i =
+      next (length (part (i * row_words) row_words all) * word_bits - m) (row (part (i * row_words) row_words all)) m
+
+  module _ (h : m ≤ atoms) (long : row_area ≤ length all) where
+    whole : (i : ℕ) → i < m → first_past i ≡ next (row_words * word_bits - m) (row (part (i * row_words) row_words all)) m
+    whole i l =
+        ap (λ (k : ℕ). next (k * word_bits - m) (row (part (i * row_words) row_words all)) m)
+        (length_part (i * row_words) row_words all (omega arith))
+
+    -- a row below the count with no such bit passes
+    pub row_on : (i : ℕ) → i < m → every i (kept row_words m all) ≡ true → atoms ≤ first_past i → every (i + 1) (kept row_words m all) ≡ true
+    row_on i l t g = kept_on row_words m all i _ (first_past i) l refl (whole i l) t g
+
+    -- one with such a bit settles it; the first part says nothing: it shows `grind` what to match
+    pub row_off : (i : ℕ) → i < m → first_past i < atoms → (first_past i ≡ first_past i) × (formed_all all m ≡ false)
+    row_off i l f = (refl, sym (kept_off row_words m all i _ (first_past i) l refl (whole i l) atoms h h f ∙ rows_decide h))
+
+    -- all rows below the count passed: the words past them decide
+    pub rows_end : every m (kept row_words m all) ≡ true
+        → formed_all all m
+        ≡ not (exists (length (part (m * row_words) (row_area - m * row_words) all) * word_bits)
+        (row (part (m * row_words) (row_area - m * row_words) all)))
+    rows_end t =
+        sym (rows_decide h) ∙ sym (kept_end row_words m all m atoms (m * row_words) row_area _ le_refl le_refl h refl refl t refl)
+        ∙ ap (λ (k : ℕ). not (exists (k * word_bits) (row (part (m * row_words) (row_area - m * row_words) all))))
+        (sym (length_part (m * row_words) (row_area - m * row_words) all (omega arith)))
+      where
+        le_refl : m ≤ m
+        le_refl = omega arith
+
+  -- an area that keeps its count has it within the limit, and its rows keep it
+  pub keeps : formed_all all m ≡ true → (formed_all all m ≡ formed_all all m) × (m ≤ atoms) × (formed_rows row_words atoms m all ≡ true)
   unfolding formed_all
-  passed ok e t =
-      let both : leb m atoms && formed_rows row_words atoms m all ≡ true = sym e ∙ not-false ok t in (
-        leb-true m atoms (and_left (leb m atoms) (formed_rows row_words atoms m all) both),
-        and_right (leb m atoms) (formed_rows row_words atoms m all) both,
-      )
+  keeps t = (
+    refl,
+    leb-true m atoms (and_left (leb m atoms) (formed_rows row_words atoms m all) t),
+    and_right (leb m atoms) (formed_rows row_words atoms m all) t,
+  )
+
+-- the laws of `formed`
+pub ruleset judging = (every_none, count_over, row_on, row_off, rows_end)

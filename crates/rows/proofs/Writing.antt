@@ -1,29 +1,27 @@
--- Writing into a row: a word set in its place, one more word of a union, and a row packed whole.
+-- Writing into a row: a word set in its place, one more word of a union, and one atom.
 -- Assumes nothing.
-use mathlib.Core.Path.{◌≡◌, sym, ap, ap₂, ◌∙◌, fun_ext}
+use mathlib.Core.Path.{◌≡◌, refl, subst, sym, ap, ap₂, ◌∙◌, fun_ext}
 use mathlib.Core.List.{List, [], ◌∷◌, ◌++◌, append_assoc}
 use mathlib.Core.Bool.{Bool, ◌||◌, or-false}
-use Prim.Native.Nat.{ℕ, zero, suc, ◌+◌, ◌*◌, ◌/◌, ◌%◌, ◌^◌, ◌≤◌, ◌<◌}
-use native.Mathlib.Nat.{add-zero, le_antisymm, one-mul}
+use Prim.Native.Nat.{ℕ, zero, suc, ◌+◌, ◌*◌, ◌/◌, ◌%◌, ◌^◌, ◌<◌}
+use native.Mathlib.Nat.{add-zero, one-mul}
 use native.Mathlib.Numerals.{add-one}
 use native.Mathlib.Omega.{arith}
 use lib.Bits.{bit_or, or_lt}
 use lib.Pow.{pow-lt, shl_exact}
 use lib.Dec.{eqb}
-use lib.ListN.{length, get_or, take, drop, set, length-append, length-take, length-drop, length-set}
-use lib.Seq.{take-suc, drop-cons, set_at, get_or-drop, get_or-append-add, get_or-set_same, get_or-set_other, drop-drop}
+use lib.ListN.{length, get_or, take, drop, set, length-append, length-take, length-set}
+use lib.Seq.{drop-cons, set_at, get_or-drop, get_or-append-add, get_or-set_same, get_or-set_other}
 use borrow.Author.Tests.{eqb-true, eqb-false, eq-eqb, ne_eqb}
-use borrow.Rule.Slice.PartMut.{set_mid_at}
 use Rattle.limits.specs.Book.{word_bits}
 use Rattle.sets.specs.Set.{Set, Same, only, union}
-use Rattle.areas.specs.Area.{part, put}
+use Rattle.areas.specs.Area.{begun, put}
 use Rattle.words.specs.Row.{bit, row, pack, binary, Words}
 use Rattle.sets.proofs.Logic.{either}
 use Rattle.words.proofs.Bits.{bit_or_lem, bit_power, bit_binary, bits_equal, binary_lt}
 use Rattle.words.proofs.Rows.{row_word, length_pack, pack_row, pack_same}
-use Rattle.areas.proofs.Parts.{length_part, put_none}
-use Rattle.words.proofs.Areas.{words_part}
-use Rattle.rows.proofs.Reading.{word_of, Known, in_range}
+use Rattle.areas.proofs.Begun.{put_front, begun_whole}
+use Rattle.rows.proofs.Reading.{Known, in_range}
 
 -- a word with the bits of f
 word_is : (v : ℕ) (f : Set) → v < 2 ^ word_bits → Same word_bits f (bit v) → binary word_bits f ≡ v
@@ -38,15 +36,15 @@ module _ (at j : ℕ) (ys area : List ℕ) (e : length ys ≡ j) (h : at + j < l
   unfolding front
   front_length = simp (length-append, length-take) (omega arith)
 
-  put_front : put at ys area ≡ front ++ drop (at + j) area
+  in_front : put at ys area ≡ front ++ drop (at + j) area
   unfolding front
-  put_front =
+  in_front =
       ap (λ (n : ℕ). take at area ++ (ys ++ drop (at + n) area)) e ∙ sym (append_assoc (take at area) ys (drop (at + j) area))
 
   -- the word past those put is as it was
   put_past : get_or (put at ys area) (at + j) 0 ≡ get_or area (at + j) 0
   put_past =
-      ap (λ (l : List ℕ). get_or l (at + j) 0) put_front
+      ap (λ (l : List ℕ). get_or l (at + j) 0) in_front
       ∙ ap (λ (n : ℕ). get_or (front ++ drop (at + j) area) n 0) (sym front_length ∙ sym (add-zero (length front)))
       ∙ get_or-append-add front (drop (at + j) area) 0 0
       ∙ get_or-drop (at + j) area 0 0
@@ -58,7 +56,7 @@ module _ (at j : ℕ) (ys area : List ℕ) (e : length ys ≡ j) (h : at + j < l
   put_more v =
       let n : ℕ = at + j in
       let m : suc n ≡ at + length (ys ++ (v ∷ [])) = simp length-append (omega arith) in
-      ap (λ (l : List ℕ). set l n v) (put_front ∙ ap (λ (l : List ℕ). front ++ l) (drop-cons area n 0 h))
+      ap (λ (l : List ℕ). set l n v) (in_front ∙ ap (λ (l : List ℕ). front ++ l) (drop-cons area n 0 h))
       ∙ set_at front (get_or area n 0) (drop (suc n) area) v n front_length
       ∙ append_assoc (take at area) ys (v ∷ drop (suc n) area)
       ∙ ap (λ (l : List ℕ). take at area ++ l) (sym (append_assoc ys (v ∷ []) (drop (suc n) area)))
@@ -78,83 +76,6 @@ pack_more (suc j) f =
   where
     at_more : (i : ℕ) → word_bits + (j * word_bits + i) ≡ suc j * word_bits + i
     at_more i = omega arith
-
--- the union of the rows at `at` of old and at `start` of src, w words each
-module _ (at start w : ℕ) (old src : List ℕ) where
-  abbrev both : Set
-  both = union (row (part at w old)) (row (part start w src))
-
-  -- before the first word nothing is put
-  pub unite_none : old ≡ put at (pack 0 both) old
-  unfolding pack
-  unite_none = put_none at old
-
-  -- past the last word the whole union is put
-  pub unite_all : (new : List ℕ) (j : ℕ) → j ≤ w → w ≤ j → new ≡ put at (pack j both) old → new ≡ put at (pack w both) old
-  unite_all new j l m e = e ∙ ap (λ (k : ℕ). put at (pack k both) old) (le_antisymm l m)
-
-  module _ (new : List ℕ) (p : Known new) (q : Known src) (j : ℕ) (l : j < w) (h : at + w ≤ length old)
-      (e : new ≡ put at (pack j both) old) where
-    word : ℕ
-    word = bit_or (get_or new (at + j) 0) (get_or src (start + j) 0)
-
-    room : at + j < length old
-    room = omega arith
-
-    -- the next word is still the old one
-    kept : get_or new (at + j) 0 ≡ get_or old (at + j) 0
-    kept = ap (λ (xs : List ℕ). get_or xs (at + j) 0) e ∙ put_past at j (pack j both) old (length_pack j both) room
-
-    -- and its bits with the other row's are those of the union
-    word_bits_lem : Same word_bits (λ i. both (j * word_bits + i)) (bit word)
-    unfolding word
-    word_bits_lem i m =
-        ap₂ ◌||◌
-        (row_word (part at w old) j i m ∙ ap (λ (x : ℕ). bit x i) (word_of at w old j l ∙ sym kept))
-        (row_word (part start w src) j i m ∙ ap (λ (x : ℕ). bit x i) (word_of start w src j l))
-        ∙ sym (bit_or_lem (get_or new (at + j) 0) (get_or src (start + j) 0) i)
-
-    -- one word more
-    pub unite_on : set new (at + j) (bit_or (get_or new (at + j) 0) (get_or src (start + j) 0)) ≡ put at (pack (j + 1) both) old
-    unfolding word
-    unite_on =
-        ap (λ (xs : List ℕ). set xs (at + j) word) e
-        ∙ put_more at j (pack j both) old (length_pack j both) room word
-        ∙ ap (λ (v : ℕ). put at (pack j both ++ (v ∷ [])) old)
-        (sym (word_is word (λ i. both (j * word_bits + i)) (or_lt word_bits _ _ (p (at + j)).fits (q (start + j)).fits) word_bits_lem))
-        ∙ ap (λ (ys : List ℕ). put at ys old) (sym (pack_more j both) ∙ ap (λ (k : ℕ). pack k both) (sym (add-one j)))
-
--- the words at `start` of src put at `at` of old
-module _ (at start : ℕ) (old src : List ℕ) where
-  -- before the first word nothing is put
-  pub copy_none : old ≡ put at (part start 0 src) old
-  copy_none = put_none at old
-
-  -- one word more
-  pub copy_on : (new : List ℕ) (j : ℕ) → new ≡ put at (part start j src) old → at + j < length old → start + j < length src
-      → set new (at + j) (get_or src (start + j) 0) ≡ put at (part start (j + 1) src) old
-  copy_on new j e h l =
-      let n : length (part start j src) ≡ j = length_part start j src (omega arith) in
-      let room : j < length (drop start src) = simp length-drop (omega arith) in
-      ap (λ (xs : List ℕ). set xs (at + j) (get_or src (start + j) 0)) e
-      ∙ put_more at j (part start j src) old n h (get_or src (start + j) 0)
-      ∙ ap (λ (v : ℕ). put at (part start j src ++ (v ∷ [])) old) (sym (get_or-drop start src j 0))
-      ∙ ap (λ (ys : List ℕ). put at ys old)
-      (sym (take-suc (drop start src) j 0 room) ∙ ap (λ (k : ℕ). part start k src) (sym (add-one j)))
-
-  -- past the last word
-  pub copy_all : (new : List ℕ) (j w : ℕ) → new ≡ put at (part start j src) old → j ≤ w → w ≤ j → new ≡ put at (part start w src) old
-  copy_all new j w e l m = e ∙ ap (λ (k : ℕ). put at (part start k src) old) (le_antisymm l m)
-
--- a row with one word changed, in its place
-set_put : (at w q v : ℕ) (old : List ℕ) → at + w ≤ length old → q < w
-    → set old (at + q) v ≡ put at (set (part at w old) q v) old
-set_put at w q v old h l =
-    let m : length (part at w old) ≡ w = length_part at w old h in
-    let n : length (set (part at w old) q v) ≡ w = length-set (part at w old) q v ∙ m in
-    sym (set_mid_at at w q old v (omega arith))
-    ∙ ap (λ (xs : List ℕ). take at old ++ (set (part at w old) q v ++ xs))
-    (drop-drop w at old ∙ ap (λ (k : ℕ). drop (at + k) old) (sym n))
 
 -- a row of words in range with the members of f is f packed
 row_packed : (w : ℕ) (ys : List ℕ) (f : Set) → length ys ≡ w → Words ys → Same (w * word_bits) (row ys) f → ys ≡ pack w f
@@ -198,27 +119,69 @@ module _ (ws : List ℕ) (q b : ℕ) (l : q < length ws) (m : b < word_bits) (a 
       ∙ ap (λ (x : Bool). bit (get_or ws (a / word_bits) 0) (a % word_bits) || x)
       (sym (ne_eqb (q * word_bits + b) a (λ (g : q * word_bits + b ≡ a). n (omega arith)))))
 
--- atom a, which is bit b of word q, joins the row at `at` of old
-pub insert_bit : (at w a q b : ℕ) (old : List ℕ) (p : Known old)
-    → at + w ≤ length old → a < w * word_bits → q ≡ a / word_bits → b ≡ a % word_bits
-    → set old (at + q) (bit_or (get_or old (at + q) 0) ((1 * 2 ^ b) % 2 ^ word_bits))
-    ≡ put at (pack w (union (row (part at w old)) (only a))) old
-insert_bit at w a q b old p h l e f =
-    let lq : q < w = omega arith in
-    let lb : b < word_bits = omega arith in
-    let ws : List ℕ = part at w old in
-    let n : length ws ≡ w = length_part at w old h in
+-- the union of the rows old and src, equally wide
+module _ (old src : List ℕ) where
+  abbrev both : Set
+  both = union (row old) (row src)
+
+  -- before the first word nothing is written
+  pub unite_none : old ≡ begun (pack 0 both) old
+  unfolding pack begun
+  unite_none = refl
+
+  -- past the last word the row is the whole union
+  pub unite_all : (new : List ℕ) → new ≡ begun (pack (length old) both) old → new ≡ pack (length old) both
+  unite_all new e = e ∙ begun_whole (pack (length old) both) old (omega (arith, length_pack (length old) both))
+
+  module _ (new : List ℕ) (p : Known new) (q : Known src) (j : ℕ) (h : j < length old) (e : new ≡ begun (pack j both) old) where
+    word : ℕ
+    word = bit_or (get_or new j 0) (get_or src j 0)
+
+    from_front : 0 + j ≡ j
+    from_front = omega arith
+
+    -- what is written is put from place 0 on
+    at_front : new ≡ put 0 (pack j both) old
+    at_front = e ∙ sym (put_front (pack j both) old)
+
+    -- the next word is still the old one
+    kept : get_or new j 0 ≡ get_or old j 0
+    kept =
+        subst (λ (k : ℕ). get_or new k 0 ≡ get_or old k 0) from_front
+        (ap (λ (xs : List ℕ). get_or xs (0 + j) 0) at_front ∙ put_past 0 j (pack j both) old (length_pack j both) (omega arith))
+
+    -- and its bits with the other row's are those of the union
+    word_bits_lem : Same word_bits (λ i. both (j * word_bits + i)) (bit word)
+    unfolding word
+    word_bits_lem i m =
+        ap₂ ◌||◌ (row_word old j i m ∙ ap (λ (x : ℕ). bit x i) (sym kept)) (row_word src j i m)
+        ∙ sym (bit_or_lem (get_or new j 0) (get_or src j 0) i)
+
+    -- one word more
+    pub unite_on : set new j (bit_or (get_or new j 0) (get_or src j 0)) ≡ begun (pack (j + 1) both) old
+    unfolding word
+    unite_on =
+        ap (λ (k : ℕ). set new k word) (sym from_front)
+        ∙ ap (λ (xs : List ℕ). set xs (0 + j) word) at_front
+        ∙ put_more 0 j (pack j both) old (length_pack j both) (omega arith) word
+        ∙ ap (λ (v : ℕ). put 0 (pack j both ++ (v ∷ [])) old)
+        (sym (word_is word (λ i. both (j * word_bits + i)) (or_lt word_bits _ _ (p j).fits (q j).fits) word_bits_lem))
+        ∙ ap (λ (ys : List ℕ). put 0 ys old) (sym (pack_more j both) ∙ ap (λ (k : ℕ). pack k both) (sym (add-one j)))
+        ∙ put_front (pack (j + 1) both) old
+
+-- atom a, which is bit b of word q, joins the row
+pub insert_bit : (ws : List ℕ) (a q b : ℕ) → Known ws → a < length ws * word_bits → q ≡ a / word_bits → b ≡ a % word_bits
+    → set ws q (bit_or (get_or ws q 0) ((1 * 2 ^ b) % 2 ^ word_bits)) ≡ pack (length ws) (union (row ws) (only a))
+insert_bit ws a q b p l e f =
     let lw : q < length ws = omega arith in
-    let x : get_or ws q 0 ≡ get_or old (at + q) 0 = word_of at w old q lq in
+    let lb : b < word_bits = omega arith in
     let one : (1 * 2 ^ b) % 2 ^ word_bits ≡ 2 ^ b = shl_exact 1 b word_bits (omega arith) (omega arith) ∙ one-mul (2 ^ b) in
     let v : ℕ = bit_or (get_or ws q 0) (2 ^ b) in
-    let ok : Words ws = words_part at w old (in_range old p) in
-    ap (λ (y : ℕ). set old (at + q) y) (ap₂ bit_or (sym x) one)
-    ∙ set_put at w q v old h lq
-    ∙ ap (λ (ys : List ℕ). put at ys old)
-    (row_packed w (set ws q v) (union (row ws) (only a)) (length-set ws q v ∙ n)
+    let ok : Words ws = in_range ws p in
+    ap (λ (x : ℕ). set ws q (bit_or (get_or ws q 0) x)) one
+    ∙ row_packed (length ws) (set ws q v) (union (row ws) (only a)) (length-set ws q v)
     (words_set ws q v ok (or_lt word_bits (get_or ws q 0) (2 ^ b) (ok q) (pow-lt lb)))
-    (λ c k. joined ws q b lw lb c ∙ ap (λ (d : ℕ). row ws c || eqb d c) (sym (atom e f))))
+    (λ c k. joined ws q b lw lb c ∙ ap (λ (d : ℕ). row ws c || eqb d c) (sym (atom e f)))
   where
     atom : q ≡ a / word_bits → b ≡ a % word_bits → a ≡ q * word_bits + b
     atom e f = omega arith

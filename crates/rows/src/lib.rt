@@ -1,7 +1,5 @@
-// Leaf functions over rows of words, for any width: a row is `width` words from place `at` of a larger area.
+// Leaf functions over rows of words, for any width, and clearing for elements of any width.
 #![tactic(auto)]
 
 pub mod clear;
-pub mod read;
-pub mod walk;
-pub mod write;
+pub mod row;

@@ -8,6 +8,7 @@ use native.Mathlib.Omega.{arith}
 use lib.Dec.{eqb}
 use lib.ListN.{length, set, length-set}
 use borrow.Author.Tests.{eqb-true}
+use Rattle.std.specs.Char.{to_ascii_lowercase}
 use Rattle.limits.specs.Book.{letter_bytes}
 use Rattle.sets.specs.Set.{pick, every}
 use Rattle.sets.proofs.Tests.{every_at}
@@ -15,8 +16,6 @@ use Rattle.areas.specs.Area.{put, begun, cleared}
 use Rattle.areas.proofs.Parts.{put_none, put_set}
 use Rattle.grammar.specs.Bytes.{small, our_letters}
 use Rattle.grammar.specs.Letters.{entries_from, our_table}
-use Rattle.grammar.specs.Fill.{fill_call}
-use Rattle.grammar.proofs.Fill.{fill_long}
 
 -- what is computed to be document 01's entry at each of n bytes from lo on is its entry there
 pub ours_between : (lo n : ℕ) (value : ℕ → ℕ) → every n (λ i. eqb (value (lo + i)) (our_letters (lo + i))) ≡ true
@@ -28,9 +27,9 @@ ours_between lo n value e b l m =
     ∙ ap our_letters q
 
 -- document 01's entry of each byte, range by range
-pub capital : (b : ℕ) → 65 ≤ b → b ≤ 90 → b + 32 ≡ our_letters b
+pub capital : (b : ℕ) → 65 ≤ b → b ≤ 90 → to_ascii_lowercase b ≡ our_letters b
 unfolding every our_letters small pick
-capital b l m = ours_between 65 26 (λ i. i + 32) refl b l (omega arith)
+capital b l m = ours_between 65 26 to_ascii_lowercase refl b l (omega arith)
 
 pub own_small : (b : ℕ) → 97 ≤ b → b ≤ 122 → b ≡ our_letters b
 unfolding every our_letters small pick
@@ -116,12 +115,10 @@ pub ranges_ours : (old : List ℕ)
 unfolding begun our_table entries_from our_letters small pick
 ranges_ours old = refl
 
--- So an area that is cleared and filled in this order is what the call leaves.
-pub fill_done : (old : List ℕ) {zeros capitals letters digits signs all : List ℕ} → letter_bytes ≤ length old → zeros ≡ cleared 0 letter_bytes old
+-- So an area that is cleared and filled in this order is begun with it.
+pub laid : (old : List ℕ) {zeros capitals letters digits signs all : List ℕ} → zeros ≡ cleared 0 letter_bytes old
     → capitals ≡ ranged 65 90 32 zeros → letters ≡ ranged 97 122 0 capitals → digits ≡ ranged 48 57 0 letters → signs ≡ ranged 45 46 0 digits
-    → all ≡ ranged 95 95 0 signs → record { number = 0; area = all } ≡ fill_call old
-fill_done old l a b c d e f =
-    ap (λ (t : List ℕ). record { number = 0; area = t })
-    (f ∙ ap (ranged 95 95 0) (e ∙ ap (ranged 45 46 0) (d ∙ ap (ranged 48 57 0) (c ∙ ap (ranged 97 122 0) (b ∙ ap (ranged 65 90 32) a))))
-    ∙ ranges_ours old)
-    ∙ sym (fill_long old l)
+    → all ≡ ranged 95 95 0 signs → all ≡ begun our_table old
+laid old a b c d e f =
+    f ∙ ap (ranged 95 95 0) (e ∙ ap (ranged 45 46 0) (d ∙ ap (ranged 48 57 0) (c ∙ ap (ranged 97 122 0) (b ∙ ap (ranged 65 90 32) a))))
+    ∙ ranges_ours old

@@ -3,24 +3,9 @@
 use mathlib.Core.Path.{◌≡◌, sym, ap, ◌∙◌}
 use mathlib.Core.Bool.{true, false, not}
 use Prim.Native.Nat.{ℕ}
-use lib.Dec.{eqb}
-use borrow.Author.Tests.{eq-eqb, ne_eqb, not-true, not-false}
-use Rattle.sets.proofs.Logic.{or_left, or_right}
-use Rattle.grammar.specs.Bytes.{blank, not_end, name_byte, space, line_end}
+use borrow.Author.Tests.{eq-eqb, ne_eqb}
+use Rattle.grammar.specs.Bytes.{not_end, name_byte, line_end}
 use Rattle.scan.specs.declared.cursor.Cursor.{Cursor}
-
--- a space, a tab, and any other byte
-pub at_space : (b : ℕ) → b ≡ space → blank b ≡ true
-unfolding blank
-at_space b e = or_left _ (eq-eqb b space e)
-
-pub at_tab : (b : ℕ) → not (eqb b 9) ≡ false → blank b ≡ true
-unfolding blank
-at_tab b e = or_right (eqb b space) (not-false _ e)
-
-pub at_other : (b : ℕ) → (b ≡ space → ⊥) → not (eqb b 9) ≡ true → blank b ≡ false
-unfolding blank
-at_other b s e = rw (ne_eqb b space s, not-true (eqb b 9) e)
 
 -- a line end, and any other byte
 pub at_end : (b : ℕ) → b ≡ line_end → not_end b ≡ false

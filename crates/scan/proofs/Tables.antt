@@ -1,30 +1,40 @@
--- The two tests of a lent table's entries, as the code goes: from the first on, until one is found or none is left; and the number by them.
+-- The two tests of a lent table's entries, as the code goes, one after the other; and the number by them.
 -- Assumes nothing.
-use mathlib.Core.Path.{◌≡◌, refl, sym, ap, ap₂, ◌∙◌}
-use mathlib.Core.Bool.{Bool, true, false, not, ◌&&◌, ◌||◌, and-false}
-use mathlib.Core.List.{List}
+use mathlib.Core.Path.{◌≡◌, refl, sym, ap, ◌∙◌}
+use mathlib.Core.Bool.{Bool, true, false, not, ◌&&◌, ◌||◌}
+use mathlib.Core.List.{List, [], ◌∷◌, reverse}
 use mathlib.Core.Logic.{◌⊎◌, ⊎_elim}
-use Prim.Native.Nat.{ℕ, ◌+◌, ◌<◌}
+use Prim.Native.Nat.{ℕ, zero, suc, ◌<◌, ◌≤◌}
 use native.Mathlib.Numerals.{add-one}
 use native.Mathlib.Omega.{arith}
 use lib.Dec.{eqb, ltb}
-use lib.ListN.{length, get_or}
-use borrow.Author.Tests.{eqb-true, eq-eqb, ne_eqb, ltb-true, lt-ltb}
+use lib.ListN.{length, get_or, take}
+use borrow.Author.Tests.{ltb-false, lt-ltb}
+use Rattle.std.specs.List.{list_any}
+use Rattle.std.proofs.Math.Bool.{or_comm}
+use Rattle.std.proofs.lemmas.List.Folds.{list_any_more}
+use Rattle.std.proofs.lemmas.List.Sorted.{list_any-IsPermutation, IsPermutation-reverse}
 use Rattle.limits.specs.Book.{letter_bytes}
-use Rattle.sets.specs.Set.{Set, pick, every, exists, same}
-use Rattle.sets.proofs.Logic.{clash, not-true, and_left, and_right, and_make, or_left, or_right, pick_true, pick_false}
-use Rattle.sets.proofs.Tests.{every_at, exists_find, exists_make, same_at}
-use Rattle.grammar.specs.Bytes.{reserved, letters}
-use Rattle.grammar.specs.Letters.{has_entry, any_reserved, any_unsettled, table_cause, letters_cause}
+use Rattle.sets.specs.Set.{pick, exists}
+use Rattle.sets.proofs.Logic.{or_left, or_right, pick_true, pick_false}
+use Rattle.sets.proofs.Tests.{exists_same}
+use Rattle.grammar.specs.Bytes.{reserved, blank, letters}
+use Rattle.grammar.proofs.Letters.{cause_fold}
+use Rattle.grammar.specs.Letters.{FoldTable, has_entry, any_reserved, any_unsettled, table_cause, letters_cause}
 
--- one more that does not pass
-none_more : (p : Set) (i : ℕ) → exists i p ≡ false → p i ≡ false → exists (i + 1) p ≡ false
+-- so many elements from the front on, tested by place and one after the other
+exists_take : (p : ℕ → Bool) (xs : List ℕ) (n : ℕ) → n ≤ length xs → exists n (λ k. p (get_or xs k 0)) ≡ list_any p (take n xs)
 unfolding exists
-none_more p i none here = ap (λ (n : ℕ). exists n p) (add-one i) ∙ ap₂ ◌||◌ here none
+exists_take p xs zero l = refl
+exists_take p xs (suc n) l =
+    ap (λ (b : Bool). p (get_or xs n 0) || b) (exists_take p xs n (omega arith))
+    ∙ or_comm (p (get_or xs n 0)) (list_any p (take n xs))
+    ∙ sym (list_any_more p xs n 0 (omega arith))
+    ∙ ap (λ (k : ℕ). list_any p (take k xs)) (add-one n)
 
--- b is one of the bytes
-abbrev pub listed : List ℕ → Set
-listed bytes b = exists (length bytes) (λ k. eqb (get_or bytes k 0) b)
+-- the reserved bytes, rising
+abbrev pub listed : List ℕ
+listed = 0 ∷ 9 ∷ 10 ∷ 13 ∷ 32 ∷ 33 ∷ 35 ∷ 58 ∷ 64 ∷ []
 
 module _ (table : List ℕ) where
   -- the entry of a byte
@@ -32,95 +42,30 @@ module _ (table : List ℕ) where
   unfolding letters
   at_byte b l = sym (pick_true (get_or table b 0) 0 (lt-ltb b letter_bytes l))
 
-  has : (b : ℕ) → b < letter_bytes → (get_or table b 0 ≡ 0 → ⊥) → has_entry table b ≡ true
-  has b l some = ap not (ne_eqb (letters table b) 0 (λ e. some (at_byte b l ∙ e)))
+  -- an entry of a reserved byte
+  abbrev pub taken : ℕ → Bool
+  taken b = not (eqb (get_or table b 0) 0)
 
-  has_not : (b : ℕ) → b < letter_bytes → get_or table b 0 ≡ 0 → has_entry table b ≡ false
-  has_not b l e = ap not (eq-eqb (letters table b) 0 (sym (at_byte b l) ∙ e))
+  pub any_listed : (r : Bool) → r ≡ list_any taken listed → r ≡ any_reserved table
+  unfolding any_reserved exists reserved blank letters pick
+  any_listed r e =
+      let turned : list_any taken (reverse listed) ≡ any_reserved table = refl in
+      e ∙ list_any-IsPermutation taken listed (reverse listed) (IsPermutation-reverse listed) ∙ turned
 
-  -- The reserved bytes, one after the other: what is listed are bytes and the reserved ones, and none of the first i has an entry.
-  pub record Judged (bytes : List ℕ) (i : ℕ) : Type 0 where
-    pub low : every (length bytes) (λ k. ltb (get_or bytes k 0) letter_bytes) ≡ true
-    pub all : same letter_bytes reserved (listed bytes) ≡ true
-    pub none : exists i (λ k. has_entry table (get_or bytes k 0)) ≡ false
+  -- an entry, not zero, that is not its own
+  abbrev pub stray : ℕ → Bool
+  stray e = not (eqb e 0) && not (eqb (get_or table e 0) e)
 
-  module _ {bytes : List ℕ} {i : ℕ} (so_far : Judged bytes i) where
-    abbrev entry : ℕ
-    entry = get_or table (get_or bytes i 0) 0
-
-    pub judged_byte : i < length bytes → get_or bytes i 0 < letter_bytes
-    judged_byte l =
-        ltb-true (get_or bytes i 0) letter_bytes (every_at (length bytes) (λ k. ltb (get_or bytes k 0) letter_bytes) so_far.low i l)
-
-    pub judged_more : i < length bytes → entry ≡ 0 → Judged bytes (i + 1)
-    judged_more l e =
-        record {
-          low = so_far.low;
-          all = so_far.all;
-          none = none_more (λ k. has_entry table (get_or bytes k 0)) i so_far.none (has_not (get_or bytes i 0) (judged_byte l) e);
-        }
-
-    pub judged_found : i < length bytes → (entry ≡ 0 → ⊥) → any_reserved table ≡ true
-    unfolding any_reserved
-    judged_found l some =
-        let b : ℕ = get_or bytes i 0 in
-        let m : b < letter_bytes = judged_byte l in
-        exists_make letter_bytes (λ b. reserved b && has_entry table b) b m
-        (and_make
-        (same_at letter_bytes reserved (listed bytes) so_far.all b m ∙ exists_make (length bytes) (λ k. eqb (get_or bytes k 0) b) i l (eq-eqb b b refl))
-        (has b m some))
-
-    pub judged_none : i ≡ length bytes → any_reserved table ≡ false
-    unfolding any_reserved
-    judged_none end =
-        not-true (any_reserved table)
-        (λ e.
-        let (b, m, q) = exists_find letter_bytes (λ b. reserved b && has_entry table b) e in
-        let there : listed bytes b ≡ true =
-        sym (same_at letter_bytes reserved (listed bytes) so_far.all b m) ∙ and_left (reserved b) (has_entry table b) q in
-        let (k, l, z) = exists_find (length bytes) (λ k. eqb (get_or bytes k 0) b) there in
-        clash
-        (exists_make i (λ k. has_entry table (get_or bytes k 0)) k (omega arith)
-        (ap (has_entry table) (eqb-true (get_or bytes k 0) b z) ∙ and_right (reserved b) (has_entry table b) q))
-        so_far.none)
-
-  -- The entries, one after the other: not zero, and not its own.
-  abbrev stray : Set
-  stray b = has_entry table b && not (eqb (letters table (letters table b)) (letters table b))
-
-  -- each of the first b is 0 or its own
-  unfoldable pub NoneStray : ℕ → Type 0
-  NoneStray b = exists b stray ≡ false
-
-  pub stray_start : NoneStray 0
-  unfolding NoneStray exists
-  stray_start = refl
-
-  module _ (b entry : ℕ) (q : get_or table b 0 ≡ entry) (l : b < letter_bytes) (m : entry < letter_bytes) where
-    abbrev again : Bool
-    again = eqb (get_or table entry 0) entry
-
-    stray_is : stray b ≡ not (eqb entry 0) && not again
-    stray_is =
-        let e : letters table b ≡ entry = sym (at_byte b l) ∙ q in
-        ap (λ (n : ℕ). not (eqb n 0) && not (eqb (letters table n) n)) e
-        ∙ ap (λ (n : ℕ). not (eqb entry 0) && not (eqb n entry)) (sym (at_byte entry m))
-
-    pub stray_more : NoneStray b → (entry ≡ 0) ⊎ (not again ≡ false) → NoneStray (b + 1)
-    unfolding NoneStray
-    stray_more none settled =
-        none_more stray b none
-        (⊎_elim (λ z. stray_is ∙ ap (λ (t : Bool). not t && not again) (eq-eqb entry 0 z))
-        (λ z. stray_is ∙ ap (λ (t : Bool). not (eqb entry 0) && t) z ∙ and-false (not (eqb entry 0))) settled)
-
-    pub stray_found : (entry ≡ 0 → ⊥) → not again ≡ true → any_unsettled table ≡ true
-    unfolding any_unsettled
-    stray_found some other =
-        exists_make letter_bytes stray b l (stray_is ∙ and_make (ap not (ne_eqb entry 0 some)) other)
-
-  pub stray_none : (b : ℕ) → b ≡ letter_bytes → NoneStray b → any_unsettled table ≡ false
-  unfolding NoneStray any_unsettled
-  stray_none b end none = ap (λ (n : ℕ). exists n stray) (sym end) ∙ none
+  pub any_stray : (r : Bool) → letter_bytes ≤ length table → ((b : ℕ) → get_or table b 0 < letter_bytes)
+      → r ≡ list_any stray (take letter_bytes table) → r ≡ any_unsettled table
+  unfolding any_unsettled
+  any_stray r l m e =
+      e ∙ sym (exists_take stray table letter_bytes l)
+      ∙ exists_same letter_bytes (λ b. stray (get_or table b 0))
+      (λ b. has_entry table b && not (eqb (letters table (letters table b)) (letters table b)))
+      (λ b k.
+      ap (λ (n : ℕ). not (eqb (get_or table b 0) 0) && not (eqb n (get_or table b 0))) (at_byte (get_or table b 0) (m b))
+      ∙ ap (λ (n : ℕ). not (eqb n 0) && not (eqb (letters table n) n)) (at_byte b k))
 
 -- The number, by what is judged one after the other.
 module _ (short : Bool) (table : List ℕ) where
@@ -150,3 +95,7 @@ module _ (short : Bool) (table : List ℕ) where
 
       pub cause_none : any_unsettled table ≡ false → 0 ≡ letters_cause short table
       cause_none e = sym (cause_entries ∙ pick_false 21 0 e)
+
+      -- a table of which none is true passes
+      pub table_passes : any_unsettled table ≡ false → FoldTable table
+      table_passes e = (ltb-false (length table) letter_bytes long, cause_fold table (sym by_table ∙ sym (cause_none e)))

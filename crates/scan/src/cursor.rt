@@ -4,11 +4,10 @@ ghost use Rattle.limits.specs.Book.{text_bytes};
 ghost use Rattle.grammar.specs.Bytes.{space, line_end, colon, hash, blank, not_end, name_byte, letters};
 ghost use Rattle.grammar.specs.Grammar.{mark};
 ghost use Rattle.grammar.specs.Lines.{starts};
-ghost use Rattle.grammar.specs.Letters.{FoldTable};
 ghost use Rattle.scan.specs.Hash.{hash_of};
 ghost use Rattle.scan.specs.Places.{past_at, name_folded};
 
-use crate::table::fold;
+use crate::letters::Letters;
 use limits::Book;
 
 #[derive(Clone, Copy)]
@@ -17,9 +16,10 @@ pub struct Cursor {
     pub line: usize,
 }
 
-// A run of name bytes: its end, and the bucket of its folded bytes.
+// A run of name bytes: where it begins and ends, and the bucket of its folded bytes.
 #[derive(Clone, Copy)]
 pub struct Word {
+    pub at: usize,
     pub end: usize,
     pub bucket: usize,
 }
@@ -34,20 +34,20 @@ impl Word {
 }
 
 impl Cursor {
-    pub const SPACE: u8 = 32;
+    pub const SPACE: u8 = b' ';
 
-    pub const TAB: u8 = 9;
+    pub const TAB: u8 = b'\t';
 
-    pub const LINE_END: u8 = 10;
+    pub const LINE_END: u8 = b'\n';
 
-    pub const COLON: u8 = 58;
+    pub const COLON: u8 = b':';
 
-    pub const HASH: u8 = 35;
-
-    // The first line of a book, `DPB 0001` with its end.
-    pub const MARK: [u8; 9] = [68, 80, 66, 32, 48, 48, 48, 49, 10];
+    pub const HASH: u8 = b'#';
 
     pub const MARK_BYTES: usize = 9;
+
+    // The first line of a book.
+    pub const MARK: [u8; Cursor::MARK_BYTES] = *b"DPB 0001\n";
 
     // Does nothing: its contract ties each constant to the byte or bytes of the grammar.
     pub fn bytes()
@@ -85,39 +85,35 @@ impl Cursor {
         }
     }
 
+    // What is left of the text from the cursor on: nothing where it stands past the end.
+    fn rest(self, text: &[u8]) -> &[u8]
+        ensures { result.now ≡ drop self.at text.now }
+    {
+        text.get(self.at..).unwrap_or(&[])
+    }
+
     // Past the blanks at the cursor.
     pub fn past_blanks(self, text: &[u8]) -> Cursor
         ensures { result ≡ record { at = past_at blank text.now self.at; line = self.line } }
     {
-        let mut i = self.at;
-        while i < text.len() {
-            let b = text[i];
-            if b != Cursor::SPACE && b != Cursor::TAB {
-                break;
-            }
-            i += 1;
-        }
-        Cursor {
-            at: i,
-            line: self.line,
-        }
+        let blanks = self
+            .rest(text)
+            .iter()
+            .take_while(|&&b| b == Cursor::SPACE || b == Cursor::TAB)
+            .count();
+        self.moved(self.at + blanks)
     }
 
     // At the end of the cursor's line.
     pub fn past_line(self, text: &[u8]) -> Cursor
         ensures { result ≡ record { at = past_at not_end text.now self.at; line = self.line } }
     {
-        let mut i = self.at;
-        while i < text.len() {
-            if text[i] == Cursor::LINE_END {
-                break;
-            }
-            i += 1;
-        }
-        Cursor {
-            at: i,
-            line: self.line,
-        }
+        let more = self
+            .rest(text)
+            .iter()
+            .take_while(|&&b| b != Cursor::LINE_END)
+            .count();
+        self.moved(self.at + more)
     }
 
     // On the next line, past the line end at the cursor.
@@ -135,29 +131,30 @@ impl Cursor {
     pub fn sees(self, text: &[u8], b: u8) -> bool
         ensures { result ≡ starts b (drop self.at text.now) }
     {
-        let at = self.at;
-        at < text.len() && text[at] == b
+        text.get(self.at) == Some(&b)
     }
 
     // The run of name bytes at the cursor.
-    pub fn word(self, text: &[u8], table: &[u8]) -> Word
-        requires { FoldTable table.now }
-        ensures ends { result.end ≡ past_at (name_byte (letters table.now)) text.now self.at }
-        ensures bucket { result.bucket ≡ hash_of (name_folded (letters table.now) text.now self.at) }
+    pub fn word(self, text: &[u8], folding: &Letters<'_>) -> Word
+        ensures begins { result.at ≡ self.at }
+        ensures ends { result.end ≡ past_at (name_byte (letters folding.now)) text.now self.at }
+        ensures bucket { result.bucket ≡ hash_of (name_folded (letters folding.now) text.now self.at) }
     {
-        let mut i = self.at;
-        let mut h = 0;
-        while i < text.len() {
-            let b = fold(table, text[i]);
-            if b == 0 {
+        let mut end = self.at;
+        let mut hash = 0;
+        for i in self.at..text.len() {
+            let b = folding.fold(text[i]);
+            let ends = b == 0;
+            if ends {
                 break;
             }
-            h = (h * 31 + b as usize) % Word::HASHES;
-            i += 1;
+            hash = (hash * 31 + b as usize) % Word::HASHES;
+            end = i + 1;
         }
         Word {
-            end: i,
-            bucket: h % Word::BUCKETS,
+            at: self.at,
+            end,
+            bucket: hash % Word::BUCKETS,
         }
     }
 }

@@ -2,4 +2,5 @@
 #![tactic(auto)]
 
 pub mod cursor;
+pub mod letters;
 pub mod table;

@@ -5,7 +5,7 @@ use mathlib.Core.Bool.{Bool}
 use mathlib.Core.List.{List}
 use Prim.Native.Nat.{ℕ, suc, ◌+◌, ◌*◌, ◌≤◌, ◌<◌}
 use native.Mathlib.Omega.{arith}
-use lib.Dec.{eqb, ltb}
+use lib.Dec.{ltb}
 use lib.ListN.{length}
 use borrow.Author.Tests.{eq-eqb, ne_eqb, ltb-true, ltb-false}
 use Rattle.limits.specs.Book.{text_bytes, names, name_bytes, atoms, folds, row_words, name_area, listing_bytes}
@@ -20,7 +20,6 @@ use Rattle.program.proofs.Theorems.{least_model}
 use Rattle.grammar.specs.Bytes.{Bytes, Folding, letters}
 use Rattle.grammar.specs.Letters.{FoldTable, letters_cause}
 use Rattle.grammar.specs.Grammar.{Clause}
-use Rattle.grammar.proofs.Letters.{letters_pass}
 use Rattle.tables.specs.Numbering.{names_of, program_of}
 use Rattle.tables.specs.Reading.{Reading, read, refused, Fits, book_of}
 use Rattle.areas.specs.Area.{filled}
@@ -39,15 +38,22 @@ use Rattle.systems.proofs.Bridge.{tables_formed}
 use Rattle.systems.proofs.Running.{length_model, model_below, round_mono}
 use Rattle.solving.specs.Solve.{SolveAreas, SolveOutcome, short_areas, solve_refusal, answer_of, solved_areas, solve_read, solve_call}
 use Rattle.solving.specs.SolveClaims.{SolveLong, SolveReady}
-use Rattle.solving.proofs.Judging.{areas_long, long_areas, long_tables, solve_cause, solve_short, solve_long_text, solve_over_folds, solve_in_range}
+use Rattle.solving.proofs.Judging.{areas_long, long_tables, solve_cause, solve_short, solve_long_text, solve_over_folds, solve_in_range}
 use Rattle.solving.proofs.Judging.{solve_refused, solve_over_atoms, solve_solved}
 use Rattle.solving.proofs.Staged.{tables_program, book_formed, book_long}
 use Rattle.listing.specs.Write.{Listing, listing_of}
 use Rattle.solver.specs.Range.{short_solve, range_cause}
-use Rattle.solver.specs.Run.{RunAreas, RunOutcome, RunReady, run_refusal, rows_left, run_made, run_tables}
+use Rattle.solver.specs.Run.{RunAreas, RunOutcome, RowsReady, run_refusal, rows_left, run_made, run_tables}
 use Rattle.solver.specs.End.{listed_end}
-use Rattle.solver.specs.declared.Answer.{Answer}
+use Rattle.ways.specs.Tables.{InUse, InOrder}
+use Rattle.solver.specs.Lent.{answer_in}
 use Rattle.solver.specs.declared.Solved.{Solved}
+use Rattle.limits.specs.Refusal.{number_of, refused_number, count_in}
+use Rattle.limits.specs.declared.Refusal.{Refusal as Cause}
+use Rattle.limits.specs.declared.Refused.{Refused}
+use Rattle.std.specs.Prelude.{Result, Ok, Err}
+use Rattle.std.specs.Result.{IsErr, IsErrAnd}
+use Rattle.reader.proofs.Calling.{number_some}
 use Rattle.solver.proofs.Range.{cause_short, cause_text, cause_folds, cause_none}
 use Rattle.solver.proofs.Atoms.{over, within}
 use Rattle.solver.proofs.Listed.{listing_same}
@@ -67,55 +73,42 @@ abbrev run_in : SolveAreas → RunAreas
 run_in o = record { all = o.all; any = o.any; spare = o.spare; model = o.model }
 
 -- what the call answers and leaves
-abbrev gives : Answer → SolveAreas → SolveOutcome
-gives r o =
-    record {
-      answer =
-          record {
-            number = r.number;
-            line = r.line;
-            names = r.names;
-            atoms = r.atoms;
-            held = r.held;
-            rounds = r.rounds;
-            c = r.c;
-            h = r.h;
-          };
-      areas = o;
-    }
-
--- a refusal
-abbrev refused_as : ℕ → ℕ → Solved
-refused_as number line =
-    record {
-      answer = record { number = number; line = line; names = 0; atoms = 0; held = 0; rounds = 0; c = 0; h = 0 };
-      end = 0;
-    }
+abbrev gives : Result Solved Refused → SolveAreas → SolveOutcome
+gives x o = record { answer = answer_in x; areas = o }
 
 -- solved, by what reading, the rounds and the listing give
 abbrev solved_as : Outcome → RunOutcome → Listing → SolveOutcome
 solved_as r s l =
-    gives
-    (record {
-      number = 0;
-      line = 0;
-      names = r.answer.names;
-      atoms = s.atoms;
-      held = l.held;
-      rounds = s.rounds;
-      c = s.c;
-      h = s.h;
-    })
-    (areas_of r.areas s.areas l.area)
+    record {
+      answer =
+          record {
+            number = 0;
+            line = 0;
+            names = r.answer.names;
+            atoms = s.atoms;
+            held = l.held;
+            rounds = s.rounds;
+            c = s.c;
+            h = s.h;
+          };
+      areas = areas_of r.areas s.areas l.area;
+    }
 
--- nothing is listed of a refusal
-pub end_refused : {r : Solved} {number line : ℕ} → r ≡ refused_as number line → (number ≡ 0 → ⊥) → (x : Reading) (k : ℕ)
-    → r.end ≡ listed_end r.answer.number x k
+-- a refusal that is handed on
+pub handed : {r : Refused} (x : Result Solved Refused) → IsErr x × IsErrAnd x (λ e. e ≡ r) → x ≡ Err r
+handed (Ok s) e = absurd e.1
+handed (Err q) e = ap (λ (r : Refused). Err r) e.1
+
+-- nothing is listed of it
+end_none : (cause : Cause) (y : Reading) (k : ℕ) → 0 ≡ listed_end (number_of cause) y k
 unfolding listed_end
-end_refused e some (refused q i) k = ap (λ (s : Solved). s.end) e
-end_refused {r} {number} e some (read cs) k =
-    ap (λ (s : Solved). s.end) e
-    ∙ sym (pick_false _ 0 (ap (λ (s : Solved). eqb s.answer.number 0) e ∙ ne_eqb number 0 some))
+end_none cause (refused q i) k = refl
+end_none cause (read cs) k = sym (pick_false _ 0 (ne_eqb (number_of cause) 0 (number_some cause)))
+
+pub end_refused : {x : Result Solved Refused} {r : Refused} → x ≡ Err r → (y : Reading) (k : ℕ)
+    → count_in (λ (s : Solved). s.end) x ≡ listed_end (refused_number x) y k
+end_refused {r = r} e y k =
+    subst (λ (x : Result Solved Refused). count_in (λ (s : Solved). s.end) x ≡ listed_end (refused_number x) y k) (sym e) (end_none r.cause y k)
 
 -- What is judged first, as q says.
 module _ (table : List ℕ) (t : Bytes) (k : ℕ) (old : SolveAreas) {low : Bool}
@@ -128,14 +121,12 @@ module _ (table : List ℕ) (t : Bytes) (k : ℕ) (old : SolveAreas) {low : Bool
   cause_is = f ∙ ap (λ (b : Bool). letters_cause b table) e
 
   -- refused
-  pub call_first : {r : Solved} → r ≡ refused_as q 0 → (q ≡ 0 → ⊥) → gives r.answer old ≡ solve_call table t k old
-  call_first d some =
-      ap (λ (x : Solved). gives x.answer old) d ∙ ap (λ (i : ℕ). solve_refusal i 0 old.tables old) cause_is
-      ∙ sym (solve_cause table t k old (λ z. some (cause_is ∙ z)))
-
-  -- else the table passes
-  pub passes_first : q ≡ 0 → FoldTable table
-  passes_first z = ((letters_pass (short_areas old) (areas_long old, long_areas old) table).0 (sym cause_is ∙ z)).1
+  pub call_first : {x : Result Solved Refused} {cause : Cause} → x ≡ Err (record { cause = cause; line = 0 }) → q ≡ number_of cause
+      → gives x old ≡ solve_call table t k old
+  call_first {x} {cause} d some =
+      ap (λ (y : Result Solved Refused). gives y old) d
+      ∙ ap (λ (i : ℕ). solve_refusal i 0 old.tables old) (sym some ∙ cause_is)
+      ∙ sym (solve_cause table t k old (λ z. number_some cause (sym some ∙ cause_is ∙ z)))
 
 -- areas, table, text and fold number are in range
 pub record Ranged (table : List ℕ) (t : Bytes) (k : ℕ) (o : SolveAreas) : Type 0 where
@@ -179,11 +170,14 @@ module _ (table : List ℕ) (passes : FoldTable table) (t : Bytes) (k : ℕ) (ol
       pass (f ∙ sym (cause_none low (length t) k x fits l)) (record { long = ready.0; passes = passes; text = fits; few = l }))))
 
   -- refused before the text is read
-  pub call_early : {r : Solved} → r ≡ refused_as number 0 → (number ≡ 0 → ⊥) → gives r.answer old ≡ solve_call table t k old
-  call_early d some =
+  pub call_early : {x : Result Solved Refused} {cause : Cause} → x ≡ Err (record { cause = cause; line = 0 }) → number ≡ number_of cause
+      → gives x old ≡ solve_call table t k old
+  call_early {x} {cause} d some =
       by_cause
-      (λ j q s. ap (λ (x : Solved). gives x.answer old) d ∙ ap (λ (i : ℕ). solve_refusal i 0 old.tables old) q ∙ sym s)
-      (λ z range. absurd (some z))
+      (λ j q s.
+      ap (λ (y : Result Solved Refused). gives y old) d
+      ∙ ap (λ (i : ℕ). solve_refusal i 0 old.tables old) (sym some ∙ q) ∙ sym s)
+      (λ z range. absurd (number_some cause (sym some ∙ z)))
 
   -- no cause
   pub ranged : number ≡ 0 → Ranged table t k old
@@ -223,10 +217,12 @@ module _ {table : List ℕ} {t : Bytes} {k : ℕ} {old : SolveAreas} (range : Ra
       ap (λ (o : Outcome). solve_refusal o.answer.number o.answer.line o.areas old) d
       ∙ sym (solver_is (refused i j) b ∙ solve_refused i j k old)
 
-  pub call_refused : {s : Solved} → s ≡ refused_as r.answer.number r.answer.line → (r.answer.number ≡ 0 → ⊥)
-      → gives s.answer (areas_of r.areas (run_in old) old.listing) ≡ solve_call table t k old
-  call_refused d some =
-      ap (λ (x : Solved). gives x.answer (areas_of r.areas (run_in old) old.listing)) d ∙ refused_by (book_of fold t) refl g some
+  pub call_refused : {x : Result Solved Refused} {q : Refused} → x ≡ Err q → r.answer.number ≡ number_of q.cause → r.answer.line ≡ q.line
+      → gives x (areas_of r.areas (run_in old) old.listing) ≡ solve_call table t k old
+  call_refused {x} {q} d n l =
+      ap (λ (y : Result Solved Refused). gives y (areas_of r.areas (run_in old) old.listing)) d
+      ∙ ap₂ (λ (i j : ℕ). solve_refusal i j r.areas old) (sym n) (sym l)
+      ∙ refused_by (book_of fold t) refl g (λ z. number_some q.cause (sym n ∙ z))
 
   -- else read
   read_by : (x : Reading) → book_of fold t ≡ x → r ≡ outcome x old.tables → r.answer.number ≡ 0 → BookRead table t old.tables r
@@ -272,22 +268,26 @@ module _ {table : List ℕ} {t : Bytes} {k : ℕ} {old : SolveAreas} (range : Ra
     counts_are = ap (λ (o : Outcome). record { names = o.answer.names; rules = o.answer.rules }) book.left
 
     -- the tables are long enough and in order
-    pub tables_ready : RunReady rules_left counts k (run_in old)
-    tables_ready =
-        let l = range.long in
+    pub rules_ready : InOrder (record { tables = rules_left; counts = counts })
+    rules_ready =
         record {
-          long = (subst TablesLong (sym rules_are) (book_long book.cs old.tables fits (long_tables old l)), (l.all, l.any, l.model));
-          spare = l.spare;
-          few = range.few;
+          long = subst TablesLong (sym rules_are) (book_long book.cs old.tables fits (long_tables old range.long));
           formed = ap₂ formed_tables rules_are counts_are ∙ tables_formed _ _ (book_formed book.cs old.tables fits);
         }
+
+    -- and so are the areas of rows
+    pub rows_ready : RowsReady k (run_in old)
+    rows_ready =
+        let l = range.long in
+        record { long = (l.all, l.any, l.model); spare = l.spare; few = range.few }
 
     -- they give the book's program
     program_is : program_in rules_left counts ≡ p
     program_is = ap₂ program_in rules_are counts_are ∙ tables_program book.cs old.tables fits
 
     -- the rounds are made, as s says
-    module _ {s : RunOutcome} (g₂ : s ≡ run_tables (program_in rules_left counts) k (run_in old)) where
+    module _ {b : InUse} (of : b ≡ record { tables = rules_left; counts = counts })
+        {s : RunOutcome} (g₂ : s ≡ run_tables (program_in b.tables b.counts) k (run_in old)) where
       -- the rows after the folds
       abbrev made : System
       made = after k (standard p)
@@ -295,16 +295,19 @@ module _ {table : List ℕ} {t : Bytes} {k : ℕ} {old : SolveAreas} (range : Ra
       -- what is made of the book's program, by its atoms
       run_is : s ≡ pick (ltb atoms (standard p).atoms) (run_refusal 8 (run_in old)) (run_made made (run_in old))
       unfolding run_tables
-      run_is = g₂ ∙ ap (λ (x : Program). run_tables x k (run_in old)) program_is
+      run_is =
+          g₂ ∙ ap (λ (x : InUse). run_tables (program_in x.tables x.counts) k (run_in old)) of
+          ∙ ap (λ (x : Program). run_tables x k (run_in old)) program_is
 
       -- refused for them
-      pub call_over : {a : Solved} → a ≡ refused_as s.number 0 → (s.number ≡ 0 → ⊥)
-          → gives a.answer (areas_of r.areas s.areas old.listing) ≡ solve_call table t k old
+      pub call_over : {x : Result Solved Refused} {cause : Cause} → x ≡ Err (record { cause = cause; line = 0 }) → s.number ≡ number_of cause
+          → gives x (areas_of r.areas s.areas old.listing) ≡ solve_call table t k old
       unfolding run_made
-      call_over d some =
-          let o = over (λ (x : RunOutcome). x.number) _ _ _ refl refl run_is some in
-          ap (λ (y : Solved). gives y.answer (areas_of r.areas s.areas old.listing)) d
-          ∙ ap₂ (λ (x : Areas) (y : RunOutcome). gives (refused_as y.number 0).answer (areas_of x y.areas old.listing)) tables_are o.1
+      call_over {x} {cause} d n =
+          let o = over (λ (y : RunOutcome). y.number) _ _ _ refl refl run_is (λ z. number_some cause (sym n ∙ z)) in
+          ap (λ (y : Result Solved Refused). gives y (areas_of r.areas s.areas old.listing)) d
+          ∙ ap (λ (i : ℕ). solve_refusal i 0 r.areas (areas_of r.areas s.areas old.listing)) (sym n)
+          ∙ ap₂ (λ (a : Areas) (y : RunOutcome). solve_refusal y.number 0 a (areas_of a y.areas old.listing)) tables_are o.1
           ∙ sym (solver_is (read book.cs) book.reads ∙ solve_over_atoms book.cs k old o.0)
 
       module _ (none₂ : s.number ≡ 0) where
@@ -333,11 +336,10 @@ module _ {table : List ℕ} {t : Bytes} {k : ℕ} {old : SolveAreas} (range : Ra
         few_rounds =
             rounds_few made.atoms (round made) made.start (round_mono made) (least_model p (numbers book.cs).formed k).rounds.start
 
-        -- the listing can be written
-        pub listing_ready : (r.answer.names ≤ names) × (name_area ≤ length r.areas.spellings) × (row_words ≤ length s.areas.model)
-            × (k ≤ folds) × (s.rounds ≤ atoms + 1) × (listing_bytes ≤ length old.listing)
+        -- the names with their set
+        pub names_long : (r.answer.names ≤ names) × (name_area ≤ length r.areas.spellings) × (row_words ≤ length s.areas.model)
         unfolding tables_of filled_with
-        listing_ready =
+        names_long =
             let few_names : length ns ≤ names = fits.names_fit in
             let used : length (name_rows ns) ≡ length ns * name_bytes =
             length_name_rows ns (λ a l. (read_fine fold folding t book.cs book.reads a l).0) in
@@ -356,10 +358,11 @@ module _ {table : List ℕ} {t : Bytes} {k : ℕ} {old : SolveAreas} (range : Ra
                 length_model (below (standard p).atoms (held_by made)) old.model range.long.model,
                 range.long.model,
               ),
-              range.few,
-              omega (arith, rounds_are, few_rounds, few),
-              range.long.listing,
             )
+
+        -- the listing can be written
+        pub listing_ready : (k ≤ folds) × (s.rounds ≤ atoms + 1) × (listing_bytes ≤ length old.listing)
+        listing_ready = (range.few, omega (arith, rounds_are, few_rounds, few), range.long.listing)
 
         -- the model area has the names held by the rounds
         same_held : Same (length ns) (model_in s.areas.model) (held_by made)

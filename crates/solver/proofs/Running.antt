@@ -27,7 +27,11 @@ use Rattle.systems.proofs.Bridge.{formed_program}
 use Rattle.systems.proofs.Standard.{standard_well, long_tables, standard_formed}
 use Rattle.solving.proofs.Staged.{standard_fold, folded_run}
 use Rattle.rounds.proofs.Calls.{accepted}
-use Rattle.solver.specs.Run.{RunAreas, RunOutcome, RunReady, rows_in, run_refusal, rows_left, run_made, run_tables}
+use Rattle.limits.specs.Refusal.{number_of}
+use Rattle.limits.specs.declared.Refusal.{Refusal}
+use Rattle.reader.proofs.Calling.{number_some}
+use Rattle.solver.specs.Run.{RunAreas, RunOutcome, RunReady, RowsReady, rows_in, run_refusal, rows_left, run_made, run_tables}
+use Rattle.ways.specs.Tables.{InUse, InOrder}
 use Rattle.solver.proofs.Atoms.{over, within}
 
 -- what the stages give, in one
@@ -57,6 +61,10 @@ made_by s f r =
 abbrev folded_in : StandardOutcome → List ℕ → RowAreas
 folded_in s all = record { all = all; any = s.areas.any; model = s.areas.model }
 
+-- rules in order and areas of rows that are long enough
+pub ready_with : {b : InUse} {k : ℕ} {o : RunAreas} → InOrder b → RowsReady k o → RunReady b.tables b.counts k o
+ready_with order rows = record { long = (order.long, rows.long); spare = rows.spare; few = rows.few; formed = order.formed }
+
 module _ {tables : RuleTables} {counts : Counts} {k : ℕ} {old : RunAreas} (ready : RunReady tables counts k old) where
   -- the program of the tables, and its rows after the folds
   abbrev p : Program
@@ -76,10 +84,10 @@ module _ {tables : RuleTables} {counts : Counts} {k : ℕ} {old : RunAreas} (rea
         g ∙ standard_formed tables counts (rows_in old) (long_tables tables (rows_in old) ready.long) ready.formed
 
     -- refused for its atoms
-    pub run_over : (s.number ≡ 0 → ⊥) → over_by s old.spare ≡ run_tables p k old
+    pub run_over : (cause : Refusal) → s.number ≡ number_of cause → over_by s old.spare ≡ run_tables p k old
     unfolding run_tables
-    run_over some =
-        let o = over (λ (x : StandardOutcome). x.number) _ _ _ refl refl standardised some in
+    run_over cause some =
+        let o = over (λ (x : StandardOutcome). x.number) _ _ _ refl refl standardised (λ z. number_some cause (sym some ∙ z)) in
         ap (λ (x : StandardOutcome). over_by x old.spare) o.1
         ∙ sym (pick_true (run_refusal 8 old) (run_made made old) (lt-ltb atoms (standard p).atoms o.0))
 
@@ -146,6 +154,10 @@ module _ {tables : RuleTables} {counts : Counts} {k : ℕ} {old : RunAreas} (rea
         -- so the folded rows and the start set are long enough and in order
         pub run_ready : RoundsLong rows × (formed_system rows s.atoms ≡ true)
         run_ready = accepted rows s.atoms (ap (λ (o : RoundsOutcome). o.number) run_call)
+
+        pub run_kept : (cause : Refusal) {j : ℕ} {model : List ℕ}
+            → ◌≡◌ {A = RoundsOutcome} (record { number = number_of cause; rounds = j; model = model }) (rounds_call rows s.atoms) → ⊥
+        run_kept cause e = number_some cause (ap (λ (o : RoundsOutcome). o.number) (e ∙ run_call))
 
         -- the rounds are made
         pub run_done : {r : RoundsOutcome} → r ≡ rounds_call rows s.atoms

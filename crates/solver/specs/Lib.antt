@@ -1,3 +1,4 @@
 pub mod Range
 pub mod Run
 pub mod End
+pub mod Lent

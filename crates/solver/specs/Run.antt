@@ -13,7 +13,7 @@ use Rattle.tables.specs.Areas.{RuleTables, Counts}
 use Rattle.systems.specs.Rows.{RowAreas, packed, below}
 use Rattle.systems.specs.Rounds.{with_model}
 use Rattle.systems.specs.Standardise.{formed_tables}
-use Rattle.systems.specs.Claims.{StandardLong}
+use Rattle.systems.specs.Claims.{StandardLong, RoundsLong}
 
 -- the areas of rows, and that of the start set and the last set
 pub record RunAreas : Type 0 where
@@ -32,6 +32,12 @@ pub record RunReady (tables : RuleTables) (counts : Counts) (k : ℕ) (o : RunAr
   pub spare : row_area ≤ length o.spare
   pub few : k ≤ folds
   pub formed : formed_tables tables counts ≡ true
+
+-- the areas alone, for tables that are known to be in order
+pub record RowsReady (k : ℕ) (o : RunAreas) : Type 0 where
+  pub long : RoundsLong (rows_in o)
+  pub spare : row_area ≤ length o.spare
+  pub few : k ≤ folds
 
 -- the number of a refusal, 0 for none, the counts, and what is left
 pub record RunOutcome : Type 0 where

@@ -1,198 +1,134 @@
 // The public call that solves a book: from text to listing; and its work in areas that may be known to be clear.
 #![tactic(auto)]
 
-ghost use Rattle.std.specs.Prelude.{◌≡◌, true};
-ghost use Rattle.limits.specs.Book.{row_area};
-ghost use Rattle.areas.specs.Area.{Clear};
+ghost use Rattle.std.specs.Prelude.{◌≡◌, true, length};
+ghost use Rattle.limits.specs.Refusal.{number_in, refused_number, count_in};
 ghost use Rattle.grammar.specs.Bytes.{letters};
-ghost use Rattle.grammar.specs.Letters.{FoldTable};
 ghost use Rattle.tables.specs.Reading.{book_of};
 ghost use Rattle.solving.specs.Solve.{solve_call};
 ghost use Rattle.solver.specs.Range.{short_solve, range_cause};
 ghost use Rattle.solver.specs.End.{listed_end};
-
-use limits::{Book, Refusal};
+ghost use Rattle.solver.specs.Lent.{answer_in};
 
 pub mod run;
 
-// The number of a refusal with its line, 0 for none; then how many names, atoms, names held and rounds there are, c and h.
-#[derive(Clone, Copy)]
-pub struct Answer {
-    pub number: usize,
-    pub line: usize,
+use limits::{Book, Refusal, Refused};
+use listing::names::Names;
+use scan::letters::Letters;
+use ways::Rules;
+
+// What a book comes to: how many names, atoms, names held and rounds there are, c and h, and where the text of the listing ends.
+#[derive(Clone, Copy, Debug, PartialEq, Eq)]
+pub struct Solved {
     pub names: usize,
     pub atoms: usize,
     pub held: usize,
     pub rounds: usize,
     pub c: usize,
     pub h: usize,
-}
-
-// The answer, and where the text of the listing ends, 0 for a refusal.
-#[derive(Clone, Copy)]
-pub struct Solved {
-    pub answer: Answer,
     pub end: usize,
 }
 
-// Whether an area is shorter than its stated size, by their lengths.
-fn too_short(
-    spellings: usize,
-    heads: usize,
-    bodies: usize,
-    all: usize,
-    any: usize,
-    spare: usize,
-    model: usize,
-    listing: usize,
-) -> bool
-    ensures { result ≡ short_solve spellings heads bodies all any spare model listing }
-{
-    if spellings < Book::NAME_AREA {
-        return true;
-    }
-    if heads < Book::RULES {
-        return true;
-    }
-    if bodies < Book::BODY_AREA {
-        return true;
-    }
-    if all < Book::ROW_AREA {
-        return true;
-    }
-    if any < Book::ROW_AREA {
-        return true;
-    }
-    if spare < Book::ROW_AREA {
-        return true;
-    }
-    if model < Book::ROW_WORDS {
-        return true;
-    }
-    listing < Book::LISTING_BYTES
+// The areas that a call is lent, of any length.
+#[derive(Drop)]
+pub struct Areas<'a> {
+    pub spellings: &'a mut [u8],
+    pub heads: &'a mut [u16],
+    pub bodies: &'a mut [u64],
+    pub all: &'a mut [u64],
+    pub any: &'a mut [u64],
+    pub spare: &'a mut [u64],
+    pub model: &'a mut [u64],
+    pub listing: &'a mut [u8],
 }
 
-// The cause for which a call is refused before its text is read, 0 for none: an area too short, the bytes of text, the fold number.
-fn cause(short: bool, text: usize, folds: usize) -> usize
-    ensures { result ≡ range_cause short text folds }
-{
-    if short {
-        return Refusal::SHORT_AREA;
-    }
-    if Book::TEXT_BYTES < text {
-        return Refusal::LONG_TEXT;
-    }
-    if Book::FOLDS < folds {
-        return Refusal::FOLDS;
-    }
-    0
-}
+impl<'a> Areas<'a> {
+    ghost use Rattle.solver.specs.Lent.{lent, left, Fresh, answer_in};
 
-// A refusal: the number, the line, and zeros.
-fn refused(number: usize, line: usize) -> Solved
-    ensures { result ≡ record {
-      answer = record { number = number; line = line; names = 0; atoms = 0; held = 0; rounds = 0; c = 0; h = 0 };
-      end = 0;
-    } }
-{
-    let answer = Answer {
-        number,
-        line,
-        names: 0,
-        atoms: 0,
-        held: 0,
-        rounds: 0,
-        c: 0,
-        h: 0,
-    };
-    Solved { answer, end: 0 }
-}
+    // Whether an area is shorter than its stated size.
+    #[tactic(auto, unfolding(crate::specs::Range::short_solve))]
+    fn too_short(&self) -> bool
+        ensures { result ≡ short_solve (length self.now.spellings.now) (length self.now.heads.now) (length self.now.bodies.now)
+            (length self.now.all.now) (length self.now.any.now) (length self.now.spare.now) (length self.now.model.now)
+            (length self.now.listing.now) }
+    {
+        let tables = self.spellings.len() < Book::NAME_AREA
+            || self.heads.len() < Book::RULES
+            || self.bodies.len() < Book::BODY_AREA;
+        let rows = self.all.len() < Book::ROW_AREA
+            || self.any.len() < Book::ROW_AREA
+            || self.spare.len() < Book::ROW_AREA
+            || self.model.len() < Book::ROW_WORDS;
+        tables || rows || self.listing.len() < Book::LISTING_BYTES
+    }
 
-// Reads the text by the letters of a table that passes, standardises its rules, folds the rows, makes the rounds and lists the names held.
-// Rows that the book leaves unused are not cleared where the caller knows its areas of rows to be clear (fresh).
-pub fn solve_in(
-    text: &[u8],
-    table: &[u8],
-    folds: usize,
-    spellings: &mut [u8],
-    heads: &mut [u16],
-    bodies: &mut [u64],
-    all: &mut [u64],
-    any: &mut [u64],
-    spare: &mut [u64],
-    model: &mut [u64],
-    listing: &mut [u8],
-    fresh: bool,
-) -> Solved
-    requires fold_table { FoldTable table.now }
-    requires clear { fresh ≡ true → Clear row_area all.old × Clear row_area any.old × Clear row_area spare.old }
-    ensures solved { record {
-      answer = record {
-        number = result.answer.number;
-        line = result.answer.line;
-        names = result.answer.names;
-        atoms = result.answer.atoms;
-        held = result.answer.held;
-        rounds = result.answer.rounds;
-        c = result.answer.c;
-        h = result.answer.h;
-      };
-      areas = record {
-        tables = record { spellings = spellings.new; heads = heads.new; bodies = bodies.new };
-        all = all.new;
-        any = any.new;
-        spare = spare.new;
-        model = model.new;
-        listing = listing.new;
-      };
-    } ≡ solve_call table.now text.now folds (record {
-      tables = record { spellings = spellings.old; heads = heads.old; bodies = bodies.old };
-      all = all.old;
-      any = any.old;
-      spare = spare.old;
-      model = model.old;
-      listing = listing.old;
-    }) }
-    ensures end { result.end ≡ listed_end result.answer.number (book_of (letters table.now) text.now) folds }
-{
-    let short = too_short(
-        spellings.len(),
-        heads.len(),
-        bodies.len(),
-        all.len(),
-        any.len(),
-        spare.len(),
-        model.len(),
-        listing.len(),
-    );
-    let number = cause(short, text.len(), folds);
-    if number != 0 {
-        return refused(number, 0);
+    // What is judged before the text is read: the areas, the bytes of text, the fold number.
+    #[tactic(auto, unfolding(crate::specs::Range::range_cause, sets::specs::Set::pick))]
+    fn judge(&self, text: &[u8], folds: usize) -> Result<(), Refusal>
+        ensures { number_in result
+            ≡ range_cause
+            (short_solve (length self.now.spellings.now) (length self.now.heads.now) (length self.now.bodies.now)
+            (length self.now.all.now) (length self.now.any.now) (length self.now.spare.now) (length self.now.model.now)
+            (length self.now.listing.now))
+            (length text.now) folds }
+    {
+        if self.too_short() {
+            return Err(Refusal::ShortArea);
+        }
+        if Book::TEXT_BYTES < text.len() {
+            return Err(Refusal::LongText);
+        }
+        if Book::FOLDS < folds {
+            return Err(Refusal::Folds);
+        }
+        Ok(())
     }
-    let book = reader::read_formed(text, table, spellings, heads, bodies);
-    if book.number != 0 {
-        return refused(book.number, book.line);
-    }
-    let made = run::run_tables(
-        heads, bodies, book.names, book.rules, folds, all, any, spare, model, fresh,
-    );
-    if made.number != 0 {
-        return refused(made.number, 0);
-    }
-    let listed = listing::write(spellings, book.names, model, folds, made.rounds, listing);
-    let answer = Answer {
-        number: 0,
-        line: 0,
-        names: book.names,
-        atoms: made.atoms,
-        held: listed.held,
-        rounds: made.rounds,
-        c: made.c,
-        h: made.h,
-    };
-    Solved {
-        answer,
-        end: listed.end,
+
+    // Reads the text by these letters, standardises its rules, folds the rows, makes the rounds and lists the names held.
+    // Rows that the book leaves unused are not cleared where the caller knows its areas of rows to be clear (fresh).
+    pub fn solve(
+        self,
+        text: &[u8],
+        folding: &Letters<'_>,
+        folds: usize,
+        fresh: bool,
+    ) -> Result<Solved, Refused>
+        requires { fresh ≡ true → Fresh self }
+        ensures solved { record { answer = answer_in result; areas = left self.exit }
+            ≡ solve_call folding.now text.now folds (lent self.entry) }
+        ensures end { count_in (λ s. s.end) result
+            ≡ listed_end (refused_number result) (book_of (letters folding.now) text.now) folds }
+    {
+        folding.passes();
+        self.judge(text, folds)?;
+        let Areas {
+            spellings,
+            heads,
+            bodies,
+            all,
+            any,
+            spare,
+            model,
+            listing,
+        } = self;
+        let counts = reader::read_formed(text, folding, spellings, heads, bodies)?;
+        let rules = Rules::of(heads, bodies, counts.names, counts.rules);
+        let made = run::run_tables(&rules, folds, all, any, spare, model, fresh)?;
+        let names = Names {
+            spellings,
+            n: counts.names,
+            model,
+        };
+        let listed = listing::write(&names, folds, made.rounds, listing);
+        Ok(Solved {
+            names: counts.names,
+            atoms: made.atoms,
+            held: listed.held,
+            rounds: made.rounds,
+            c: made.c,
+            h: made.h,
+            end: listed.end,
+        })
     }
 }
 
@@ -209,18 +145,9 @@ pub fn solve(
     spare: &mut [u64],
     model: &mut [u64],
     listing: &mut [u8],
-) -> Answer
+) -> Result<Solved, Refused>
     ensures { record {
-      answer = record {
-        number = result.number;
-        line = result.line;
-        names = result.names;
-        atoms = result.atoms;
-        held = result.held;
-        rounds = result.rounds;
-        c = result.c;
-        h = result.h;
-      };
+      answer = answer_in result;
       areas = record {
         tables = record { spellings = spellings.new; heads = heads.new; bodies = bodies.new };
         all = all.new;
@@ -238,24 +165,17 @@ pub fn solve(
       listing = listing.old;
     }) }
 {
-    let short = too_short(
-        spellings.len(),
-        heads.len(),
-        bodies.len(),
-        all.len(),
-        any.len(),
-        spare.len(),
-        model.len(),
-        listing.len(),
-    );
-    let first = scan::table::cause(short, table);
-    if first != 0 {
-        let unsolved = refused(first, 0);
-        return unsolved.answer;
-    }
-    let solved = solve_in(
-        text, table, folds, spellings, heads, bodies, all, any, spare, model, listing, false,
-    );
-    let answer = solved.answer;
-    answer
+    let areas = Areas {
+        spellings,
+        heads,
+        bodies,
+        all,
+        any,
+        spare,
+        model,
+        listing,
+    };
+    let short = areas.too_short();
+    let folding = Letters::judge(short, table)?;
+    areas.solve(text, &folding, folds, false)
 }

@@ -1,66 +1,56 @@
 // From rule tables to rows, the last set and the counts.
 ghost use Rattle.std.specs.Prelude.{◌≡◌, true};
 ghost use Rattle.limits.specs.Book.{row_area};
+ghost use Rattle.limits.specs.Refusal.{number_in, count_in};
 ghost use Rattle.areas.specs.Area.{Clear};
 ghost use Rattle.tables.specs.Areas.{program_in};
-ghost use Rattle.solver.specs.Run.{RunReady, run_tables};
+ghost use Rattle.solver.specs.Run.{RowsReady, run_tables};
 
-// The number of a refusal, 0 for none; then the atoms, the rounds, c and h.
-#[derive(Clone, Copy)]
+use limits::Refusal;
+use ways::Rules;
+
+// What the rounds give: the atoms, the rounds, c and h.
+#[derive(Clone, Copy, Debug, PartialEq, Eq)]
 pub struct Run {
-    pub number: usize,
     pub atoms: usize,
     pub rounds: usize,
     pub c: usize,
     pub h: usize,
 }
 
-// Standardises the n names and m rules, folds the rows and makes the rounds; too many atoms leave all as it was. For tables that are in
-// order, as after reading, and whose rows stay so when they are folded: no stage judges them again. Unused rows are not cleared where they
-// are known to be clear (fresh).
+// Standardises the rules, folds the rows and makes the rounds; too many atoms leave all as it was. Rows stay in order when they are folded: no
+// stage judges them again. Unused rows are not cleared where they are known to be clear (fresh). The areas stay apart: two fields of a lent
+// struct are not lent on in one call.
 pub fn run_tables(
-    heads: &[u16],
-    bodies: &[u64],
-    n: usize,
-    m: usize,
+    rules: &Rules<'_>,
     folds: usize,
     all: &mut [u64],
     any: &mut [u64],
     spare: &mut [u64],
     model: &mut [u64],
     fresh: bool,
-) -> Run
-    requires run_ready { RunReady (record { heads = heads.now; bodies = bodies.now }) (record { names = n; rules = m }) folds
-        (record { all = all.old; any = any.old; spare = spare.old; model = model.old }) }
+) -> Result<Run, Refusal>
+    requires ready { RowsReady folds (record { all = all.old; any = any.old; spare = spare.old; model = model.old }) }
     requires clear { fresh ≡ true → Clear row_area all.old × Clear row_area any.old × Clear row_area spare.old }
     ensures { record {
-      number = result.number;
-      atoms = result.atoms;
-      rounds = result.rounds;
-      c = result.c;
-      h = result.h;
+      number = number_in result;
+      atoms = count_in (λ r. r.atoms) result;
+      rounds = count_in (λ r. r.rounds) result;
+      c = count_in (λ r. r.c) result;
+      h = count_in (λ r. r.h) result;
       areas = record { all = all.new; any = any.new; spare = spare.new; model = model.new };
-    } ≡ run_tables (program_in (record { heads = heads.now; bodies = bodies.now }) (record { names = n; rules = m })) folds
+    } ≡ run_tables (program_in rules.now.tables rules.now.counts) folds
         (record { all = all.old; any = any.old; spare = spare.old; model = model.old }) }
 {
-    let made = standard::standardise_formed(heads, bodies, n, m, all, any, model, fresh);
-    if made.number != 0 {
-        return Run {
-            number: made.number,
-            atoms: 0,
-            rounds: 0,
-            c: 0,
-            h: 0,
-        };
-    }
+    rules.in_order();
+    let made = standard::standardise_formed(rules, all, any, model, fresh)?;
     unfold::fold_formed(all, spare, made.atoms, folds, fresh);
-    // The rounds refuse no rows that standardising left, so their number is not looked at.
-    let run = rounds::run_formed(all, any, model, made.atoms);
-    Run {
-        number: 0,
+    // The rounds refuse no rows that standardising left.
+    let rounds = rounds::run_formed(all, any, model, made.atoms)?;
+    Ok(Run {
         atoms: made.atoms,
-        rounds: run.rounds,
+        rounds,
         c: made.c,
         h: made.h,
-    }
+    })
 }

@@ -1,72 +1,32 @@
-// A book: solved for each number of folds and for one too many, each time in areas of its own, and taken the plain route.
+// A book: solved for each number of folds and for one too many, and taken the plain route.
 use crate::calls;
 use limits::Book;
 use std::io;
 use std::io::Write;
-use trial::areas::Area;
+use trial::lent::Areas;
+use trial::lines::Parts;
 
-// In areas of the stated sizes.
-fn stated<W: Write>(out: &mut W, text: &[u8], folds: usize) -> io::Result<()> {
-    let mut spellings = [Area::MARK8; Book::NAME_AREA];
-    let mut heads = [Area::MARK16; Book::RULES];
-    let mut bodies = [Area::MARK64; Book::BODY_AREA];
-    let mut all = [Area::MARK64; Book::ROW_AREA];
-    let mut any = [Area::MARK64; Book::ROW_AREA];
-    let mut spare = [Area::MARK64; Book::ROW_AREA];
-    let mut model = [Area::MARK64; Book::ROW_WORDS];
-    let mut listing = [Area::MARK8; Book::LISTING_BYTES];
-    calls::solve(
-        out,
-        text,
-        folds,
-        &mut spellings,
-        &mut heads,
-        &mut bodies,
-        &mut all,
-        &mut any,
-        &mut spare,
-        &mut model,
-        &mut listing,
-    )
-}
-
-// In longer areas.
-fn longer<W: Write>(out: &mut W, text: &[u8], folds: usize) -> io::Result<()> {
-    let mut spellings = [Area::MARK8; Area::SPELLINGS];
-    let mut heads = [Area::MARK16; Area::HEADS];
-    let mut bodies = [Area::MARK64; Area::BODIES];
-    let mut all = [Area::MARK64; Area::ROWS];
-    let mut any = [Area::MARK64; Area::ROWS];
-    let mut spare = [Area::MARK64; Area::ROWS];
-    let mut model = [Area::MARK64; Area::MODEL];
-    let mut listing = [Area::MARK8; Area::LISTING];
-    calls::solve(
-        out,
-        text,
-        folds,
-        &mut spellings,
-        &mut heads,
-        &mut bodies,
-        &mut all,
-        &mut any,
-        &mut spare,
-        &mut model,
-        &mut listing,
-    )
-}
-
-fn solved<W: Write>(out: &mut W, text: &[u8], folds: usize) -> io::Result<()> {
-    if folds % 2 == 0 {
-        stated(out, text, folds)?;
-    } else {
-        longer(out, text, folds)?;
-    }
-    Ok(())
-}
-
+// Each time in areas of its own: of the stated sizes, and in longer ones.
 pub fn show<W: Write>(out: &mut W, text: &[u8]) -> io::Result<()> {
     for folds in 0..=Book::FOLDS + 1 {
-        solved(out, text, folds)?;
+        let longer = folds % 2 == 1;
+        let mut areas = Areas::marked();
+        let mut lent = areas.lend(|_, stated| if longer { usize::MAX } else { stated });
+        calls::solve(out, text, folds, &mut lent)?;
     }
     calls::plainly(out, text)
+}
+
+// Files of many short books, each after a line that begins with `#`. All are solved in the same areas: each call finds what the one before it left.
+pub fn many<W: Write>(out: &mut W, text: &[u8]) -> io::Result<()> {
+    let mut areas = Areas::marked();
+    let mut lent = areas.lend(|_, _| usize::MAX);
+    for part in Parts::of(text) {
+        out.write_all(part.title)?;
+        for folds in 0..=Book::FOLDS + 1 {
+            calls::solve(out, part.body, folds, &mut lent)?;
+        }
+        calls::plainly(out, part.body)?;
+    }
+    Ok(())
 }

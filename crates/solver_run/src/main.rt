@@ -3,28 +3,25 @@
 
 mod books;
 mod calls;
-mod many;
-mod print;
 mod short;
 
 use std::fs::Files;
 use std::io::{BufWriter, Write};
 use std::{env, io};
-use trial::{files, lines};
+use trial::files;
+use trial::lines::titled;
 
-fn judge<W: Write>(out: &mut W, text: &[u8]) -> io::Result<()> {
-    if lines::titled(text) {
-        many::show(out, text)?;
+fn argument<R: Files + AllocGlobal + Eprint, W: Write>(
+    rt: &R,
+    out: &mut W,
+    path: &str,
+) -> io::Result<()> {
+    let text = files::take(rt, out, path)?;
+    if titled(&text) {
+        books::many(out, &text)
     } else {
-        books::show(out, text)?;
+        books::show(out, &text)
     }
-    Ok(())
-}
-
-fn argument<R: Files + Eprint, W: Write>(rt: &R, out: &mut W, path: &str) -> io::Result<()> {
-    let mut text = [0u8; files::INPUT];
-    let got = files::take(rt, out, path, &mut text)?;
-    judge(out, &text[..got])
 }
 
 fn main(rt: HostRuntime) -> io::Result<()> {

@@ -1,67 +1,38 @@
 // A book: standardised, and from there folded and run for each number of folds.
 use crate::calls;
 use limits::Book;
+use reader::Counts;
 use scan::table::folding;
 use std::io;
 use std::io::Write;
-use trial::areas::Area;
-use trial::print;
+use trial::lent::{LentTables, Rows, Tables};
 
 // Prints what standardising answers and leaves; whether it accepts.
-fn standardised<W: Write>(
-    out: &mut W,
-    heads: &[u16],
-    bodies: &[u64],
-    n: usize,
-    m: usize,
-) -> io::Result<bool> {
-    let mut all = [Area::MARK64; Area::ROWS];
-    let mut any = [Area::MARK64; Area::ROWS];
-    let mut model = [Area::MARK64; Area::MODEL];
-    calls::standardise(out, heads, bodies, n, m, &mut all, &mut any, &mut model)
+fn standardised<W: Write>(out: &mut W, tables: &LentTables, book: Counts) -> io::Result<bool> {
+    let mut rows = Rows::marked();
+    calls::standardise(out, tables, book, &mut rows.whole())
 }
 
 // k folds of rows that are standardised anew, and the rounds.
-fn folded<W: Write>(
-    out: &mut W,
-    heads: &[u16],
-    bodies: &[u64],
-    n: usize,
-    m: usize,
-    k: usize,
-) -> io::Result<()> {
-    let mut all = [Area::MARK64; Area::ROWS];
-    let mut any = [Area::MARK64; Area::ROWS];
-    let mut model = [Area::MARK64; Area::MODEL];
-    let mut spare = [Area::MARK64; Area::ROWS];
-    let r = standard::standardise(heads, bodies, n, m, &mut all, &mut any, &mut model);
-    calls::fold(out, &mut all, &mut spare, r.atoms, k)?;
-    calls::run(out, &all, &any, &mut model, r.atoms)
-}
-
-fn each_fold<W: Write>(
-    out: &mut W,
-    heads: &[u16],
-    bodies: &[u64],
-    n: usize,
-    m: usize,
-) -> io::Result<()> {
-    for k in 0..=Book::FOLDS {
-        folded(out, heads, bodies, n, m, k)?;
-    }
-    Ok(())
+fn folded<W: Write>(out: &mut W, tables: &LentTables, book: Counts, k: usize) -> io::Result<()> {
+    let mut rows = Rows::marked();
+    let mut lent = rows.whole();
+    let answer = calls::made(tables, book, &mut lent);
+    let atoms = answer.map_or(0, |r| r.atoms);
+    calls::fold(out, &mut lent, atoms, k)?;
+    calls::run(out, lent, atoms)
 }
 
 pub fn show<W: Write>(out: &mut W, text: &[u8]) -> io::Result<()> {
-    let mut spellings = [Area::MARK8; Area::SPELLINGS];
-    let mut heads = [Area::MARK16; Area::HEADS];
-    let mut bodies = [Area::MARK64; Area::BODIES];
-    let table = folding();
-    let r = reader::read(text, &table, &mut spellings, &mut heads, &mut bodies);
-    if r.number != 0 {
-        print::line(out, b"no book")?;
-    } else if standardised(out, &heads, &bodies, r.names, r.rules)? {
-        each_fold(out, &heads, &bodies, r.names, r.rules)?;
+    let mut tables = Tables::marked();
+    let mut lent = tables.whole();
+    let Ok(book) = lent.read(text, &folding()) else {
+        return writeln!(out, "no book");
+    };
+    if standardised(out, &lent, book)? {
+        for k in 0..=Book::FOLDS {
+            folded(out, &lent, book, k)?;
+        }
     }
     Ok(())
 }

@@ -1,183 +1,118 @@
-// Files of cases: calls on tables and rows that no book gives. Each line begins with a letter:
+// Files of cases: calls on tables and rows that no book gives. Each line begins with a letter, and has hexadecimal numbers, a blank before each:
 //   # ..               a title, with which a case begins
 //   h b a o m i v ..   the entries of heads, bodies, "all", "any" or model from number i on become these
 //   S n m . . . . .    standardises, lending so many entries of heads, bodies, "all", "any", model; and goes the plain route with those tables
 //   F count k . .      folds, lending so many entries of "all" and spare
 //   R count . . .      runs, after the fold if there is one, lending so many entries of "all", "any", model
 // In a case with S the tables begin as zeros, in one without it "all", "any" and model do; all else begins as marks.
-use crate::{calls, lent, tokens};
+use crate::calls;
+use reader::Counts;
 use std::io;
 use std::io::Write;
-use trial::areas::Area;
-use trial::{lines, print};
+use trial::lent;
+use trial::lent::{GUARD, Marked, Place, Rows, Tables};
+use trial::lines::Parts;
 
-// The entries that the line at a place gives.
-fn put(text: &[u8], at: usize, area: &mut [u64]) {
-    let mut word = tokens::next(text, tokens::next(text, at));
-    let mut i = tokens::size(text, at, 1);
-    while i < area.len() && word < text.len() {
-        area[i] = tokens::number(text, word);
-        word = tokens::next(text, word);
-        i += 1;
+fn number(word: &[u8]) -> u64 {
+    word.iter().fold(0, |v, b| {
+        (v << 4) | char::from(*b).to_digit(16).unwrap_or(0) as u64
+    })
+}
+
+// The first numbers of a line.
+fn sizes<const N: usize>(line: &[u8]) -> [usize; N] {
+    let mut sizes = [0; N];
+    for (size, word) in sizes.iter_mut().zip(line.split(|b| *b == b' ').skip(1)) {
+        *size = number(word) as usize;
+    }
+    sizes
+}
+
+// The first line with this letter.
+fn line(text: &[u8], letter: u8) -> Option<&[u8]> {
+    text.split(|b| *b == b'\n')
+        .find(|line| line.first() == Some(&letter))
+}
+
+// The entries that a line gives.
+fn put<E: Marked>(line: &[u8], area: &mut [E]) {
+    let mut numbers = line.split(|b| *b == b' ').skip(1).map(number);
+    let from = numbers.next().unwrap_or(0) as usize;
+    for (entry, value) in area.iter_mut().skip(from).zip(numbers) {
+        *entry = E::low(value);
     }
 }
 
 // Zeros over the stated size, and the entries that the lines with this letter give.
-fn fill(text: &[u8], letter: u8, area: &mut [u64]) {
-    lent::clear(area);
-    let mut at = lines::find(text, 0, letter);
-    while at < text.len() {
-        put(text, at, area);
-        at = lines::find(text, lines::next_line(text, at), letter);
+fn fill<E: Marked>(text: &[u8], letter: u8, area: &mut [E]) {
+    let stated = area.len().saturating_sub(GUARD);
+    for entry in lent::first(area, stated).iter_mut() {
+        *entry = E::ZERO;
+    }
+    for line in text.split(|b| *b == b'\n') {
+        if line.first() == Some(&letter) {
+            put(line, area);
+        }
     }
 }
 
-// The first entries of an area.
-fn front16(area: &[u16], count: usize) -> &[u16] {
-    if count <= area.len() {
-        return &area[0..count];
-    }
-    &area[0..0]
+// Standardises and goes the plain route, as a line says.
+fn tables<W: Write>(out: &mut W, text: &[u8], line: &[u8]) -> io::Result<()> {
+    let [names, rules, heads, bodies, all, any, model] = sizes::<7>(line);
+    let book = Counts { names, rules };
+    let mut tables = Tables::marked();
+    fill(text, b'h', &mut tables.heads);
+    fill(text, b'b', &mut tables.bodies);
+    let lent = tables.lend(|place, _| if place == Place::Heads { heads } else { bodies });
+    let mut rows = Rows::marked();
+    let mut to = rows.lend(|place, _| match place {
+        Place::All => all,
+        Place::Any => any,
+        _ => model,
+    });
+    calls::standardise(out, &lent, book, &mut to)?;
+    let mut fresh = Rows::marked();
+    calls::plainly(out, &lent, book, lent::first(&mut fresh.model, model))
 }
 
-fn front64(area: &[u64], count: usize) -> &[u64] {
-    if count <= area.len() {
-        return &area[0..count];
-    }
-    &area[0..0]
+fn fold<W: Write>(out: &mut W, line: &[u8], rows: &mut Rows) -> io::Result<()> {
+    let [count, k, all, spare] = sizes::<4>(line);
+    let mut lent = rows.lend(|place, _| if place == Place::All { all } else { spare });
+    calls::fold(out, &mut lent, count, k)
 }
 
-// Standardises as the line at a place says.
-fn standardise<W: Write>(
-    out: &mut W,
-    text: &[u8],
-    at: usize,
-    heads: &[u16],
-    bodies: &[u64],
-) -> io::Result<()> {
-    let mut all = [Area::MARK64; Area::ROWS];
-    let mut any = [Area::MARK64; Area::ROWS];
-    let mut model = [Area::MARK64; Area::MODEL];
-    let n = tokens::size(text, at, 1);
-    let m = tokens::size(text, at, 2);
-    let a = tokens::size(text, at, 5);
-    let b = tokens::size(text, at, 6);
-    let c = tokens::size(text, at, 7);
-    if a <= Area::ROWS && b <= Area::ROWS && c <= Area::MODEL {
-        calls::standardise(
-            out,
-            heads,
-            bodies,
-            n,
-            m,
-            &mut all[0..a],
-            &mut any[0..b],
-            &mut model[0..c],
-        )?;
-    }
-    Ok(())
+fn run<W: Write>(out: &mut W, line: &[u8], rows: &mut Rows) -> io::Result<()> {
+    let [count, all, any, model] = sizes::<4>(line);
+    let lent = rows.lend(|place, _| match place {
+        Place::All => all,
+        Place::Any => any,
+        _ => model,
+    });
+    calls::run(out, lent, count)
 }
 
-// Goes the plain route as the same line says.
-fn plainly<W: Write>(
-    out: &mut W,
-    text: &[u8],
-    at: usize,
-    heads: &[u16],
-    bodies: &[u64],
-) -> io::Result<()> {
-    let mut model = [Area::MARK64; Area::MODEL];
-    let n = tokens::size(text, at, 1);
-    let m = tokens::size(text, at, 2);
-    let c = tokens::size(text, at, 7);
-    if c <= Area::MODEL {
-        calls::plainly(out, heads, bodies, n, m, &mut model[0..c])?;
-    }
-    Ok(())
-}
-
-fn tables<W: Write>(out: &mut W, text: &[u8], at: usize) -> io::Result<()> {
-    let mut wide = [Area::MARK16 as u64; Area::HEADS];
-    let mut heads = [Area::MARK16; Area::HEADS];
-    let mut bodies = [Area::MARK64; Area::BODIES];
-    fill(text, b'h', &mut wide);
-    lent::narrow(&wide, &mut heads);
-    fill(text, b'b', &mut bodies);
-    let a = tokens::size(text, at, 3);
-    let b = tokens::size(text, at, 4);
-    standardise(out, text, at, front16(&heads, a), front64(&bodies, b))?;
-    plainly(out, text, at, front16(&heads, a), front64(&bodies, b))
-}
-
-// Folds, where there is a line for it.
-fn fold<W: Write>(out: &mut W, text: &[u8], all: &mut [u64]) -> io::Result<()> {
-    let mut spare = [Area::MARK64; Area::ROWS];
-    let at = lines::find(text, 0, b'F');
-    let count = tokens::size(text, at, 1);
-    let k = tokens::size(text, at, 2);
-    let a = tokens::size(text, at, 3);
-    let b = tokens::size(text, at, 4);
-    if at < text.len() && a <= all.len() && b <= Area::ROWS {
-        calls::fold(out, &mut all[0..a], &mut spare[0..b], count, k)?;
-    }
-    Ok(())
-}
-
-// Runs, where there is a line for it.
-fn run<W: Write>(
-    out: &mut W,
-    text: &[u8],
-    all: &[u64],
-    any: &[u64],
-    model: &mut [u64],
-) -> io::Result<()> {
-    let at = lines::find(text, 0, b'R');
-    let count = tokens::size(text, at, 1);
-    let a = tokens::size(text, at, 2);
-    let b = tokens::size(text, at, 3);
-    let c = tokens::size(text, at, 4);
-    if at < text.len() && c <= model.len() {
-        calls::run(
-            out,
-            front64(all, a),
-            front64(any, b),
-            &mut model[0..c],
-            count,
-        )?;
-    }
-    Ok(())
-}
-
+// Folds and runs, where there is a line for it.
 fn rows<W: Write>(out: &mut W, text: &[u8]) -> io::Result<()> {
-    let mut all = [Area::MARK64; Area::ROWS];
-    let mut any = [Area::MARK64; Area::ROWS];
-    let mut model = [Area::MARK64; Area::MODEL];
-    fill(text, b'a', &mut all);
-    fill(text, b'o', &mut any);
-    fill(text, b'm', &mut model);
-    fold(out, text, &mut all)?;
-    run(out, text, &all, &any, &mut model)
-}
-
-// One case, past its title.
-fn case<W: Write>(out: &mut W, text: &[u8]) -> io::Result<()> {
-    let at = lines::find(text, 0, b'S');
-    if at < text.len() {
-        tables(out, text, at)?;
-    } else {
-        rows(out, text)?;
+    let mut rows = Rows::marked();
+    fill(text, b'a', &mut rows.all);
+    fill(text, b'o', &mut rows.any);
+    fill(text, b'm', &mut rows.model);
+    if let Some(line) = line(text, b'F') {
+        fold(out, line, &mut rows)?;
+    }
+    if let Some(line) = line(text, b'R') {
+        run(out, line, &mut rows)?;
     }
     Ok(())
 }
 
 pub fn each<W: Write>(out: &mut W, text: &[u8]) -> io::Result<()> {
-    let mut at = 0;
-    while at < text.len() {
-        let first = lines::next_line(text, at);
-        let after = lines::part_end(text, first);
-        print::text(out, &text[at..first])?;
-        case(out, &text[first..after])?;
-        at = after;
+    for case in Parts::of(text) {
+        out.write_all(case.title)?;
+        match line(case.body, b'S') {
+            Some(line) => tables(out, case.body, line)?,
+            None => rows(out, case.body)?,
+        }
     }
     Ok(())
 }

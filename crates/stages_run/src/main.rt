@@ -5,28 +5,25 @@
 mod books;
 mod calls;
 mod cases;
-mod lent;
 mod print;
-mod tokens;
 
 use std::fs::Files;
 use std::io::{BufWriter, Write};
 use std::{env, io};
-use trial::{files, lines};
+use trial::files;
+use trial::lines::titled;
 
-fn judge<W: Write>(out: &mut W, text: &[u8]) -> io::Result<()> {
-    if lines::titled(text) {
-        cases::each(out, text)?;
+fn argument<R: Files + AllocGlobal + Eprint, W: Write>(
+    rt: &R,
+    out: &mut W,
+    path: &str,
+) -> io::Result<()> {
+    let text = files::take(rt, out, path)?;
+    if titled(&text) {
+        cases::each(out, &text)
     } else {
-        books::show(out, text)?;
+        books::show(out, &text)
     }
-    Ok(())
-}
-
-fn argument<R: Files + Eprint, W: Write>(rt: &R, out: &mut W, path: &str) -> io::Result<()> {
-    let mut text = [0u8; files::INPUT];
-    let got = files::take(rt, out, path, &mut text)?;
-    judge(out, &text[..got])
 }
 
 fn main(rt: HostRuntime) -> io::Result<()> {

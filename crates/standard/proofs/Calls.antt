@@ -1,16 +1,14 @@
 -- The outcomes of the call.
 -- Assumes nothing.
 use mathlib.Core.Path.{◌≡◌, sym, ap, ◌∙◌, subst}
-use mathlib.Core.Bool.{Bool, true, false, not, ◌||◌}
+use mathlib.Core.Bool.{Bool, true, false, ◌||◌}
 use mathlib.Core.List.{List}
 use Prim.Native.Nat.{ℕ, ◌+◌, ◌*◌, ◌≤◌, ◌<◌}
 use native.Mathlib.Omega.{arith}
-use lib.Dec.{ltb}
 use lib.ListN.{length, get_or}
-use borrow.Author.Tests.{lt-ltb, le-ltb, ltb-false, not-true}
-use Rattle.limits.specs.Book.{names, rules, atoms, word_bits, row_words, body_words, body_area, row_area}
+use Rattle.limits.specs.Book.{names, rules, atoms, word_bits, row_words, body_words, row_area}
 use Rattle.sets.specs.Set.{Set, count, only, empty_set}
-use Rattle.sets.proofs.Logic.{or_left, or_right, or_none}
+use Rattle.sets.proofs.Logic.{or_left, or_right}
 use Rattle.sets.proofs.Counting.{count_le}
 use Rattle.areas.specs.Area.{part, filled}
 use Rattle.words.specs.Row.{row, pack}
@@ -30,53 +28,14 @@ use Rattle.systems.proofs.Standard.{standard_well, long_tables, standard_short, 
 use Rattle.ways.specs.Ways.{several_names}
 use Rattle.ways.proofs.Counts.{heads_below, row_atoms, row_h}
 use Rattle.placing.specs.Partial.{PlacingReady, Filled}
-use Rattle.standard.specs.Short.{short_standard}
-
--- areas of h, b, a, y and m entries: each that is too short settles it
-module _ (h b a y m : ℕ) where
-  abbrev lack_rules : Bool
-  lack_rules = ltb h rules || ltb b body_area
-
-  abbrev lack_rows : Bool
-  lack_rows = ltb a row_area || (ltb y row_area || ltb m row_words)
-
-  -- the heads
-  pub lack_heads : h < rules → true ≡ short_standard h b a y m
-  unfolding short_standard
-  lack_heads l = sym (or_left lack_rows (or_left (ltb b body_area) (lt-ltb h rules l)))
-
-  -- the bodies
-  pub lack_bodies : b < body_area → true ≡ short_standard h b a y m
-  unfolding short_standard
-  lack_bodies l = sym (or_left lack_rows (or_right (ltb h rules) (lt-ltb b body_area l)))
-
-  -- the "all" area
-  pub lack_all : a < row_area → true ≡ short_standard h b a y m
-  unfolding short_standard
-  lack_all l = sym (or_right lack_rules (or_left (ltb y row_area || ltb m row_words) (lt-ltb a row_area l)))
-
-  -- the "any" area
-  pub lack_any : y < row_area → true ≡ short_standard h b a y m
-  unfolding short_standard
-  lack_any l = sym (or_right lack_rules (or_right (ltb a row_area) (or_left (ltb m row_words) (lt-ltb y row_area l))))
-
-  -- else the model area decides
-  pub lack_model : rules ≤ h → body_area ≤ b → row_area ≤ a → row_area ≤ y → ltb m row_words ≡ short_standard h b a y m
-  unfolding short_standard
-  lack_model p q r s = sym (rw (le-ltb h rules p, le-ltb b body_area q, le-ltb a row_area r, le-ltb y row_area s))
-
-  -- where none is, each is long enough, r being the test of them all
-  pub long_enough : (r : Bool) → r ≡ short_standard h b a y m → r ≡ false
-      → ((rules ≤ h) × (body_area ≤ b)) × ((row_area ≤ a) × (row_area ≤ y) × (row_words ≤ m))
-  unfolding short_standard
-  long_enough r e f =
-      let p = or_none lack_rules lack_rows (sym e ∙ f) in
-      let q = or_none (ltb h rules) (ltb b body_area) p.0 in
-      let s = or_none (ltb a row_area) (ltb y row_area || ltb m row_words) p.1 in
-      let t = or_none (ltb y row_area) (ltb m row_words) s.1 in (
-        (ltb-false h rules q.0, ltb-false b body_area q.1),
-        (ltb-false a row_area s.0, ltb-false y row_area t.0, ltb-false m row_words t.1),
-      )
+use mathlib.Core.Logic.{⊎_elim}
+use Rattle.limits.specs.declared.Refusal.{Refusal}
+use Rattle.limits.specs.Refusal.{number_of}
+use Rattle.areas.proofs.Parts.{part_whole}
+use Rattle.words.proofs.Rows.{length_pack}
+use Rattle.standard.specs.Short.{short_rows}
+use Rattle.ways.specs.Tables.{tables_cause}
+use Rattle.ways.proofs.Judged.{refused_tables}
 
 -- Areas filled and then begun again.
 
@@ -111,6 +70,9 @@ module _ (tables : RuleTables) (counts : Counts) (formed : formed_tables tables 
   -- the names with several rules are marked, and `helpers` rules are theirs
   module _ (marked : List ℕ) (s : marked ≡ pack body_words (several_names heads m)) (helpers : ℕ)
       (q : helpers ≡ count m (λ j. row (part 0 body_words marked) (get_or heads j 0))) where
+    marked_long : length marked ≡ body_words
+    marked_long = ap length s ∙ length_pack body_words (several_names heads m)
+
     pub helpers_few : n + helpers ≤ names + rules
     helpers_few =
         let b : count m (λ j. row (part 0 body_words marked) (get_or heads j 0)) ≤ m =
@@ -168,7 +130,7 @@ module _ (tables : RuleTables) (counts : Counts) (formed : formed_tables tables 
             }
 
         -- with them placed, the outcome is the definition's
-        rows_well : (c h : ℕ) (o₂ : RowAreas) → Filled p c o₁ o₂ → h ≡ count (body_words * word_bits) (row (part 0 body_words marked))
+        rows_well : (c h : ℕ) (o₂ : RowAreas) → Filled p c o₁ o₂ → h ≡ count (length marked * word_bits) (row marked)
             → record { number = 0; atoms = n + helpers; c = c; h = h; areas = o₂ } ≡ standard_well p o
         unfolding standard_rows
         rows_well c h o₂ f many =
@@ -177,27 +139,40 @@ module _ (tables : RuleTables) (counts : Counts) (formed : formed_tables tables 
             in
             same_outcome atoms_are
             (f.counted ∙ sym (kinds p (formed_program tables counts formed)).c_rules)
-            (many ∙ row_h tables counts formed marked s)
+            (many
+            ∙ ap (λ (k : ℕ). count (k * word_bits) (row marked)) marked_long
+            ∙ ap (λ (ws : List ℕ). count (body_words * word_bits) (row ws)) (sym (part_whole body_words marked marked_long))
+            ∙ row_h tables counts formed marked s)
             (filled_again row_area (packed row_words (standard p).atoms only) (packed row_words (standard p).atoms (all_row p))
             o.all o₁.all o₂.all (as_many only (all_row p)) (by_atoms only o.all o₁.all x) f.all_rows)
             (filled_again row_area (packed row_words (standard p).atoms (λ i. empty_set)) (packed row_words (standard p).atoms (any_row p))
             o.any o₁.any o₂.any (as_many (λ i. empty_set) (any_row p)) (by_atoms (λ i. empty_set) o.any o₁.any y) f.any_rows)
             (f.start_row ∙ ap (with_model (start_set p)) z ∙ model_again (start_set p) empty_set o.model)
 
--- `low` is whether an area is too short, `ok` whether the tables are in order
+-- `low` is whether an area of rows is too short
+pub short_is : (o : RowAreas) (low : Bool) → low ≡ short_rows (length o.all) (length o.any) (length o.model) → low ≡ short_system o
+unfolding short_system
+short_is o low e = e
+
 module _ (tables : RuleTables) (counts : Counts) (o : RowAreas) (low : Bool)
-    (e : low ≡ short_standard (length tables.heads) (length tables.bodies) (length o.all) (length o.any) (length o.model)) where
-  short_is : low ≡ short_tables tables o
-  unfolding short_tables short_rules short_system short_standard
-  short_is = e
-
-  -- an area too short: 1
+    (short : low ≡ short_rows (length o.all) (length o.any) (length o.model)) where
+  -- an area of rows too short: 1
   pub call_short : low ≡ true → standard_refusal 1 o ≡ standard_call tables counts o
-  call_short f = sym (standard_short tables counts o (sym short_is ∙ f))
+  unfolding short_tables
+  call_short f = sym (standard_short tables counts o (or_right (short_rules tables) (sym (short_is o low short) ∙ f)))
 
-  -- ill formed tables: 10
-  pub call_ill : low ≡ false → (ok : Bool) → ok ≡ formed_tables tables counts → not ok ≡ true → standard_refusal 10 o ≡ standard_call tables counts o
-  call_ill f ok g t = sym (standard_ill tables counts o (sym short_is ∙ f) (sym g ∙ not-true ok t))
+  -- the tables' own: 1 or 10
+  pub call_refused : low ≡ false → (cause : Refusal) → number_of cause ≡ tables_cause (record { tables = tables; counts = counts })
+      → standard_refusal (number_of cause) o ≡ standard_call tables counts o
+  unfolding short_tables
+  call_refused f cause g =
+      ⊎_elim
+      (λ q. ap (λ (k : ℕ). standard_refusal k o) q.1 ∙ sym (standard_short tables counts o (or_left (short_system o) q.0)))
+      (λ q. ap (λ (k : ℕ). standard_refusal k o) q.2 ∙ sym (standard_ill tables counts o (or_make q.0 (sym (short_is o low short) ∙ f)) q.1))
+      (refused_tables (record { tables = tables; counts = counts }) cause g)
+    where
+      or_make : {a b : Bool} → a ≡ false → b ≡ false → a || b ≡ false
+      or_make p q = rw (p, q)
 
 -- the areas are long enough and the tables in order; the names with several rules are marked, and `helpers` rules are theirs
 module _ (tables : RuleTables) (counts : Counts) (o : RowAreas) (long : StandardLong tables o) (formed : formed_tables tables counts ≡ true)
@@ -217,8 +192,14 @@ module _ (tables : RuleTables) (counts : Counts) (o : RowAreas) (long : Standard
   pub call_done : k ≤ atoms → (o₁ : RowAreas) → o₁.all ≡ filled row_area (packed row_words k only) o.all
       → o₁.any ≡ filled row_area (packed row_words k (λ i. empty_set)) o.any → o₁.model ≡ with_model empty_set o.model
       → (c h : ℕ) (o₂ : RowAreas) → Filled (program_in tables counts) c o₁ o₂
-      → h ≡ count (body_words * word_bits) (row (part 0 body_words marked))
+      → h ≡ count (length marked * word_bits) (row marked)
       → record { number = 0; atoms = k; c = c; h = h; areas = o₂ } ≡ standard_call tables counts o
   call_done l o₁ x y z c h o₂ f many =
       rows_well tables counts formed marked s helpers q l o o₁ x y z c h o₂ f many
       ∙ sym (standard_good tables counts o (long_tables tables o long) formed (few tables counts formed marked s helpers q l))
+
+-- an outcome over areas that are handed back
+pub handed_back : {k c h : ℕ} {x x' y y' z z' : List ℕ} {r : StandardOutcome} → x ≡ x' → y ≡ y' → z ≡ z'
+    → record { number = 0; atoms = k; c = c; h = h; areas = record { all = x'; any = y'; model = z' } } ≡ r
+    → record { number = 0; atoms = k; c = c; h = h; areas = record { all = x; any = y; model = z } } ≡ r
+handed_back p q s e = cc

@@ -3,91 +3,66 @@
 
 ghost use Rattle.std.specs.Prelude.{◌≡◌, true};
 ghost use Rattle.limits.specs.Book.{row_area};
+ghost use Rattle.limits.specs.Refusal.{number_in, count_in};
 ghost use Rattle.areas.specs.Area.{Clear};
-ghost use Rattle.systems.specs.Standardise.{formed_tables, standard_call};
-ghost use Rattle.systems.specs.Claims.{StandardLong};
-ghost use Rattle.standard.specs.Short.{short_standard};
+ghost use Rattle.systems.specs.Standardise.{standard_call};
+ghost use Rattle.systems.specs.Claims.{RoundsLong};
+ghost use Rattle.standard.specs.Short.{short_rows};
 
 use limits::{Book, Refusal};
+use placing::Rows;
+use rows::row;
+use ways::Rules;
 
-// The number of a refusal, 0 for none; then the atoms, c and h.
-#[derive(Clone, Copy)]
-pub struct Answer {
-    pub number: usize,
+// What standardising counts: the atoms, c and h.
+#[derive(Clone, Copy, Debug, PartialEq, Eq)]
+pub struct Standard {
     pub atoms: usize,
     pub c: usize,
     pub h: usize,
 }
 
-// Whether an area is shorter than its stated size.
-fn too_short(heads: usize, bodies: usize, all: usize, any: usize, model: usize) -> bool
-    ensures { result ≡ short_standard heads bodies all any model }
+// Whether an area of rows is shorter than its stated size.
+fn too_short(all: usize, any: usize, model: usize) -> bool
+    ensures { result ≡ short_rows all any model }
 {
-    if heads < Book::RULES {
-        return true;
-    }
-    if bodies < Book::BODY_AREA {
-        return true;
-    }
-    if all < Book::ROW_AREA {
-        return true;
-    }
-    if any < Book::ROW_AREA {
-        return true;
-    }
-    model < Book::ROW_WORDS
+    all < Book::ROW_AREA || any < Book::ROW_AREA || model < Book::ROW_WORDS
 }
 
-// Leaves the rows of the n names and m rules, zero past them, and the start set in the model area; too many atoms leave all as it was. For a
-// caller that knows its tables to be in order, as after reading: they are not judged again. Nor are unused rows cleared that it knows to be
-// clear (fresh).
+// Leaves the rows of these rules, zero past them, and the start set in the model area; too many atoms leave all as it was. The rules are not
+// judged again. Nor are unused rows cleared that a caller knows to be clear (fresh): it is known only as the program runs, so no type says it.
 pub fn standardise_formed(
-    heads: &[u16],
-    bodies: &[u64],
-    n: usize,
-    m: usize,
+    rules: &Rules<'_>,
     all: &mut [u64],
     any: &mut [u64],
     model: &mut [u64],
     fresh: bool,
-) -> Answer
-    requires standard_long { StandardLong (record { heads = heads.now; bodies = bodies.now })
-        (record { all = all.old; any = any.old; model = model.old })
-        × (formed_tables (record { heads = heads.now; bodies = bodies.now }) (record { names = n; rules = m }) ≡ true) }
+) -> Result<Standard, Refusal>
+    requires long { RoundsLong (record { all = all.old; any = any.old; model = model.old }) }
     requires clear { fresh ≡ true → Clear row_area all.old × Clear row_area any.old }
     ensures { record {
-      number = result.number;
-      atoms = result.atoms;
-      c = result.c;
-      h = result.h;
+      number = number_in result;
+      atoms = count_in (λ r. r.atoms) result;
+      c = count_in (λ r. r.c) result;
+      h = count_in (λ r. r.h) result;
       areas = record { all = all.new; any = any.new; model = model.new };
-    }
-        ≡ standard_call (record { heads = heads.now; bodies = bodies.now }) (record { names = n; rules = m })
-        (record { all = all.old; any = any.old; model = model.old }) }
+    } ≡ standard_call rules.now.tables rules.now.counts (record { all = all.old; any = any.old; model = model.old }) }
 {
-    let several = ways::several(heads, m);
-    let atoms = n + ways::helpers(heads, m, &several);
+    rules.in_order();
+    let several = rules.several();
+    let atoms = rules.names() + rules.helpers(&several);
     let over = Book::ATOMS < atoms;
     if over {
-        return Answer {
-            number: Refusal::ATOMS,
-            atoms: 0,
-            c: 0,
-            h: 0,
-        };
+        return Err(Refusal::Atoms);
     }
-    placing::begin(atoms, all, any, model, fresh);
-    let c = placing::fill(heads, bodies, &several, n, m, all, any, model);
-    let h = rows::read::count(&several, 0, Book::BODY_WORDS);
-    Answer {
-        number: 0,
-        atoms,
-        c,
-        h,
-    }
+    let mut rows = Rows { all, any, model };
+    rows.begin(atoms, fresh);
+    let c = rows.fill(rules, &several);
+    let h = row::count(&several);
+    Ok(Standard { atoms, c, h })
 }
 
-// Judges the tables, then standardises them; a refusal leaves all as it was.
+// Judges the tables, then standardises them; a refusal leaves all as it was. The areas are lent one by one: a caller's memory is fixed.
 pub fn standardise(
     heads: &[u16],
     bodies: &[u64],
@@ -96,32 +71,19 @@ pub fn standardise(
     all: &mut [u64],
     any: &mut [u64],
     model: &mut [u64],
-) -> Answer
+) -> Result<Standard, Refusal>
     ensures { record {
-      number = result.number;
-      atoms = result.atoms;
-      c = result.c;
-      h = result.h;
+      number = number_in result;
+      atoms = count_in (λ r. r.atoms) result;
+      c = count_in (λ r. r.c) result;
+      h = count_in (λ r. r.h) result;
       areas = record { all = all.new; any = any.new; model = model.new };
-    }
-        ≡ standard_call (record { heads = heads.now; bodies = bodies.now }) (record { names = n; rules = m })
+    } ≡ standard_call (record { heads = heads.now; bodies = bodies.now }) (record { names = n; rules = m })
         (record { all = all.old; any = any.old; model = model.old }) }
 {
-    if too_short(heads.len(), bodies.len(), all.len(), any.len(), model.len()) {
-        return Answer {
-            number: Refusal::SHORT_AREA,
-            atoms: 0,
-            c: 0,
-            h: 0,
-        };
+    if too_short(all.len(), any.len(), model.len()) {
+        return Err(Refusal::ShortArea);
     }
-    if !ways::formed(heads, bodies, n, m) {
-        return Answer {
-            number: Refusal::ILL_FORMED,
-            atoms: 0,
-            c: 0,
-            h: 0,
-        };
-    }
-    standardise_formed(heads, bodies, n, m, all, any, model, false)
+    let rules = Rules::judge(heads, bodies, n, m)?;
+    standardise_formed(&rules, all, any, model, false)
 }

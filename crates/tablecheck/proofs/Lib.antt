@@ -1,4 +1,4 @@
-pub mod Places
+pub mod Words
 pub mod Spelling
 pub mod Walks
 pub mod Meeting

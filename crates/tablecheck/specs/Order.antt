@@ -1,6 +1,6 @@
 -- Numbering by first appearance as the code finds it.
 -- Assumes nothing.
-use Rattle.std.specs.Prelude.{Bool, ◌&&◌, List, ℕ, suc, eqb}
+use Rattle.std.specs.Prelude.{Bool, ◌&&◌, List, ℕ, eqb, Option, Some, None}
 use Rattle.sets.specs.Set.{pick}
 use Rattle.tables.specs.Writing.{orderly, met_in}
 
@@ -8,9 +8,9 @@ use Rattle.tables.specs.Writing.{orderly, met_in}
 abbrev pub head_end : ℕ
 head_end = 65536
 
--- one more than how many numbers are met in the end, 0 where one is neither met before nor the next
-unfoldable pub counted : ℕ → List ℕ → ℕ
-counted met xs = pick (orderly met xs) (suc (met_in met xs)) 0
+-- how many numbers are met in the end, none where one is neither met before nor the next
+unfoldable pub met_after : ℕ → List ℕ → Option ℕ
+met_after met xs = pick (orderly met xs) (Some (met_in met xs)) None
 
 -- the numbers are in order from the first on, and n in all
 unfoldable pub ordered : ℕ → List ℕ → Bool

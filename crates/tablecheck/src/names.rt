@@ -1,129 +1,112 @@
-// The names of a name area: each folded and padded with zeros, and no two the same.
-ghost use Rattle.std.specs.Prelude.{◌≡◌, not, ◌+◌, ◌-◌, ◌*◌, ◌<◌, ◌≤◌, length};
+// The names of tables: each folded and padded with zeros, and no two the same.
+ghost use Rattle.std.specs.Prelude.{◌≡◌, ◌==◌, ◌&&◌, not, ◌*◌, ◌<◌, ◌≤◌, length};
+ghost use Rattle.std.specs.List.{position};
 ghost use Rattle.limits.specs.Book.{names, name_bytes, name_area};
 ghost use Rattle.sets.specs.Set.{every};
 ghost use Rattle.areas.specs.Area.{part};
-ghost use Rattle.grammar.specs.Letters.{FoldTable};
 ghost use Rattle.grammar.specs.Bytes.{letters, all_of};
 ghost use Rattle.tables.specs.Numbering.{same_bytes};
 ghost use Rattle.tables.specs.Areas.{name_at};
-ghost use Rattle.tables.specs.Writing.{own, good_name, different};
+ghost use Rattle.tables.specs.Writing.{zero_from, own, good_name, different};
 
-use crate::zeros::zero8;
+use crate::NameArea;
+use crate::zeros::all_zero;
 use limits::Book;
-use scan::table::fold;
+use scan::letters::Letters;
 
-// Where the bytes of name a end.
-pub fn name_end(spellings: &[u8], a: usize) -> usize
-    requires { (a < names) × (name_area ≤ length spellings.now) }
-    ensures { result ≡ a * name_bytes + length (name_at spellings.now a) }
+// The place of the row's first zero.
+fn first_zero(row: &[u8]) -> Option<usize>
+    ensures { result ≡ position (λ b. b == 0) row.now }
 {
-    let mut i = Book::name_at(a);
-    let end = i + Book::NAME_BYTES;
-    while i < end {
-        if spellings[i] == 0 {
-            return i;
-        }
-        i += 1;
-    }
-    i
+    row.iter().position(|b| *b == 0)
 }
 
-// Whether every byte from place `from` up to `to` is a name byte that is its own entry.
-pub fn own_bytes(spellings: &[u8], table: &[u8], from: usize, to: usize) -> bool
-    requires { (to ≤ length spellings.now) × FoldTable table.now }
-    ensures { result ≡ all_of (own (letters table.now)) (part from (to - from) spellings.now) }
+// Whether a byte is a name byte that is its own entry.
+#[tactic(auto, unfolding(tables::specs::Writing::own, tables::specs::Areas::nonzero))]
+fn is_own(b: u8, folding: &Letters<'_>) -> bool
+    ensures { result ≡ own (letters folding.now) b }
 {
-    let mut i = from;
-    while i < to {
-        let b = spellings[i];
-        if b == 0 {
-            return false;
-        }
-        if fold(table, b) != b {
-            return false;
-        }
-        i += 1;
-    }
-    true
+    b != 0 && folding.fold(b) == b
 }
 
-// Whether row a holds a folded name, padded with zeros.
-pub fn good_name(spellings: &[u8], table: &[u8], a: usize) -> bool
-    requires { (a < names) × (name_area ≤ length spellings.now) × FoldTable table.now }
-    ensures { result ≡ good_name (letters table.now) spellings.now a }
+// Whether every byte of a name is.
+pub fn own_bytes(name: &[u8], folding: &Letters<'_>) -> bool
+    ensures { result ≡ all_of (own (letters folding.now)) name.now }
 {
-    let from = Book::name_at(a);
-    let end = name_end(spellings, a);
-    if end == from {
-        return false;
-    }
-    if !own_bytes(spellings, table, from, end) {
-        return false;
-    }
-    zero8(spellings, end, from + Book::NAME_BYTES)
+    name.iter().all(|b| is_own(*b, folding))
 }
 
-pub fn good_names(spellings: &[u8], table: &[u8], n: usize) -> bool
-    requires { (n ≤ names) × (name_area ≤ length spellings.now) × FoldTable table.now }
-    ensures { result ≡ every n (good_name (letters table.now) spellings.now) }
-{
-    let mut a = 0;
-    while a < n {
-        if !good_name(spellings, table, a) {
-            return false;
-        }
-        a += 1;
+impl NameArea<'_> {
+    // Row a of the name area.
+    fn name_row(&self, a: usize) -> &[u8]
+        requires { a < names }
+        ensures bytes { result.now ≡ part (a * name_bytes) name_bytes self.now.area }
+        ensures size { length result.now ≡ name_bytes }
+    {
+        let at = Book::name_at(a);
+        &self.spellings[at..at + Book::NAME_BYTES]
     }
-    true
-}
 
-// Whether names a and b are the same, up to the first byte that differs or is zero.
-pub fn same_name(spellings: &[u8], a: usize, b: usize) -> bool
-    requires { (a < names) × (b < names) × (name_area ≤ length spellings.now) }
-    ensures { result ≡ same_bytes (name_at spellings.now a) (name_at spellings.now b) }
-{
-    let x = Book::name_at(a);
-    let y = Book::name_at(b);
-    let mut k = 0;
-    while k < Book::NAME_BYTES {
-        let c = spellings[x + k];
-        if c != spellings[y + k] {
-            return false;
-        }
-        if c == 0 {
-            return true;
-        }
-        k += 1;
+    // The name in it: up to the row's first zero, or all of it.
+    #[tactic(auto, using(crate::proofs::Words::name_found))]
+    pub fn name(&self, a: usize) -> &[u8]
+        requires { a < names }
+        ensures bytes { result.now ≡ name_at self.now.area a }
+        ensures bound { length result.now ≤ name_bytes }
+    {
+        let row = self.name_row(a);
+        let end = first_zero(row).unwrap_or(row.len());
+        &row[..end]
     }
-    true
-}
 
-// Whether name a differs from every name before it.
-pub fn is_new(spellings: &[u8], a: usize) -> bool
-    requires { (a < names) × (name_area ≤ length spellings.now) }
-    ensures { result ≡ every a (λ b. not (same_bytes (name_at spellings.now a) (name_at spellings.now b))) }
-{
-    let mut b = 0;
-    while b < a {
-        if same_name(spellings, a, b) {
-            return false;
-        }
-        b += 1;
+    // Whether row a holds a folded name, padded with zeros.
+    #[tactic(auto, using(crate::proofs::Spelling::row_outcomes))]
+    pub fn good_name(&self, a: usize, folding: &Letters<'_>) -> bool
+        requires { a < names }
+        ensures { result ≡ good_name (letters folding.now) self.now.area a }
+    {
+        let name = self.name(a);
+        let padding = &self.name_row(a)[name.len()..];
+        !name.is_empty() && own_bytes(name, folding) && all_zero(padding)
     }
-    true
-}
 
-pub fn all_differ(spellings: &[u8], n: usize) -> bool
-    requires { (n ≤ names) × (name_area ≤ length spellings.now) }
-    ensures { result ≡ different spellings.now n }
-{
-    let mut a = 0;
-    while a < n {
-        if !is_new(spellings, a) {
-            return false;
-        }
-        a += 1;
+    pub fn good_names(&self, folding: &Letters<'_>) -> bool
+        ensures { result ≡ every self.now.count (good_name (letters folding.now) self.now.area) }
+    {
+        (0..self.count).all(|a| self.good_name(a, folding))
     }
-    true
+
+    // Whether names a and b are the same.
+    #[tactic(auto, using(crate::proofs::Words::same_bytes_is))]
+    pub fn same_name(&self, a: usize, b: usize) -> bool
+        requires { (a < names) × (b < names) }
+        ensures { result ≡ same_bytes (name_at self.now.area a) (name_at self.now.area b) }
+    {
+        self.name(a) == self.name(b)
+    }
+
+    // Whether name a differs from every name before it.
+    pub fn is_new(&self, a: usize) -> bool
+        requires { a < names }
+        ensures { result
+            ≡ every a (λ b. not (same_bytes (name_at self.now.area a) (name_at self.now.area b))) }
+    {
+        (0..a).all(|b| !self.same_name(a, b))
+    }
+
+    pub fn all_differ(&self) -> bool
+        ensures { result ≡ different self.now.area self.now.count }
+    {
+        (0..self.count).all(|a| self.is_new(a))
+    }
+
+    // Whether the names in use are folded names, each different, and the rows past them are zero.
+    pub fn names_formed(&self, folding: &Letters<'_>) -> bool
+        ensures { result
+            ≡ (every self.now.count (good_name (letters folding.now) self.now.area)
+            && (different self.now.area self.now.count
+            && zero_from (self.now.count * name_bytes) name_area self.now.area)) }
+    {
+        self.good_names(folding) && self.all_differ() && self.spare_names_zero()
+    }
 }

@@ -1,46 +1,44 @@
-// Zeros in a part of an area, at the three widths of the lent areas.
-ghost use Rattle.std.specs.Prelude.{◌≡◌, ◌≤◌, length};
+// Zeros: the entries of a part of an area, and the rows of tables that are not in use.
+ghost use Rattle.std.specs.Prelude.{◌≡◌, ◌*◌, eqb};
+ghost use Rattle.std.specs.List.{list_all};
+ghost use Rattle.limits.specs.Book.{name_bytes, name_area, rules, body_words, body_area};
 ghost use Rattle.tables.specs.Writing.{zero_from};
 
-// Whether every entry from place `from` up to `to` is zero.
-pub fn zero8(area: &[u8], from: usize, to: usize) -> bool
-    requires { to ≤ length area.now }
-    ensures { result ≡ zero_from from to area.now }
+use crate::{NameArea, RuleArea};
+use areas::Entry;
+use limits::Book;
+
+// Whether every entry of the part is zero.
+pub fn all_zero<T: Entry>(part: &[T]) -> bool
+    ensures { result ≡ list_all (λ x. eqb (T.number x) 0) part.now }
 {
-    let mut i = from;
-    while i < to {
-        if area[i] != 0 {
-            return false;
-        }
-        i += 1;
-    }
-    true
+    part.iter().all(|x| x.number() == 0)
 }
 
-pub fn zero16(area: &[u16], from: usize, to: usize) -> bool
-    requires { to ≤ length area.now }
-    ensures { result ≡ zero_from from to area.now }
-{
-    let mut j = from;
-    while j < to {
-        if area[j] != 0 {
-            return false;
-        }
-        j += 1;
+impl NameArea<'_> {
+    // Whether every row of the name area past the names in use is zero.
+    #[tactic(auto, using(crate::proofs::Words::zero_is))]
+    pub fn spare_names_zero(&self) -> bool
+        ensures { result ≡ zero_from (self.now.count * name_bytes) name_area self.now.area }
+    {
+        all_zero(&self.spellings[Book::name_at(self.count)..Book::NAME_AREA])
     }
-    true
 }
 
-pub fn zero64(area: &[u64], from: usize, to: usize) -> bool
-    requires { to ≤ length area.now }
-    ensures { result ≡ zero_from from to area.now }
-{
-    let mut k = from;
-    while k < to {
-        if area[k] != 0 {
-            return false;
-        }
-        k += 1;
+impl RuleArea<'_> {
+    // Whether every head past the rules in use is.
+    #[tactic(auto, using(crate::proofs::Words::zero_is))]
+    pub fn spare_heads_zero(&self) -> bool
+        ensures { result ≡ zero_from self.now.count rules self.now.tables.heads }
+    {
+        all_zero(&self.heads[self.count..Book::RULES])
     }
-    true
+
+    // And every body.
+    #[tactic(auto, using(crate::proofs::Words::zero_is))]
+    pub fn spare_bodies_zero(&self) -> bool
+        ensures { result ≡ zero_from (self.now.count * body_words) body_area self.now.tables.bodies }
+    {
+        all_zero(&self.bodies[Book::body_at(self.count)..Book::BODY_AREA])
+    }
 }

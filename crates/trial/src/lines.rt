@@ -1,44 +1,69 @@
-// The lines of a file, by the place where they begin. A line that begins with `#` is a title, with which a part of the file begins.
+// A file in parts: each begins with a title, a line that begins with `#`.
 ghost use Rattle.std.specs.Prelude.{◌≤◌, ◌<◌, length};
 
 const TITLE: u8 = b'#';
 
 // Whether the file has parts: it opens with a title.
 pub fn titled(text: &[u8]) -> bool {
-    if text.len() == 0 {
-        return false;
-    }
-    text[0] == TITLE
+    text.first() == Some(&TITLE)
 }
 
-// The line after the one at a place, or the end of the text.
-pub fn next_line(text: &[u8], at: usize) -> usize
-    requires { at < length text.now }
-    ensures { (at < result) × (result ≤ length text.now) }
+// The size of the first line, its end counted.
+pub fn line_size(text: &[u8]) -> usize
+    requires { 0 < length text.now }
+    ensures { (0 < result) × (result ≤ length text.now) }
 {
-    let mut i = at;
-    while i < text.len() && text[i] != b'\n' {
-        i += 1;
+    match text.iter().position(|b| *b == b'\n') {
+        Some(end) => end + 1,
+        None => text.len(),
     }
-    if i < text.len() { i + 1 } else { i }
 }
 
-// The first line from a line on that begins with this byte, or the end of the text.
-pub fn find(text: &[u8], at: usize, byte: u8) -> usize
-    requires { at ≤ length text.now }
-    ensures { (at ≤ result) × (result ≤ length text.now) }
+// The size of the lines before the first title.
+fn body_size(text: &[u8]) -> usize
+    ensures { result ≤ length text.now }
 {
-    let mut line = at;
-    while line < text.len() && text[line] != byte {
-        line = next_line(text, line);
+    let mut size = 0;
+    while size < text.len() && text[size] != TITLE {
+        size += line_size(&text[size..]);
     }
-    line
+    size
 }
 
-// The end of the part whose title ends there: where the next title begins, or the end of the text.
-pub fn part_end(text: &[u8], at: usize) -> usize
-    requires { at ≤ length text.now }
-    ensures { (at ≤ result) × (result ≤ length text.now) }
-{
-    find(text, at, TITLE)
+#[derive(Drop)]
+pub struct Part<'a> {
+    pub title: &'a [u8],
+    pub body: &'a [u8],
+}
+
+// The parts that are left of a file.
+#[derive(Drop)]
+pub struct Parts<'a> {
+    rest: &'a [u8],
+}
+
+impl<'a> Parts<'a> {
+    pub fn of(text: &'a [u8]) -> Parts<'a> {
+        Parts { rest: text }
+    }
+}
+
+impl<'a> Iterator for Parts<'a> {
+    type Item = Part<'a>;
+
+    ghost use Rattle.std.specs.Prelude.{length};
+    ghost use Rattle.std.specs.Iterator.{at_most};
+
+    ghost remaining = { λ s. at_most (length s.rest.now) };
+
+    fn next(&mut self) -> Option<Part<'a>> {
+        let text = self.rest;
+        if text.is_empty() {
+            return None;
+        }
+        let (title, after) = text.split_at(line_size(text));
+        let (body, rest) = after.split_at(body_size(after));
+        self.rest = rest;
+        Some(Part { title, body })
+    }
 }

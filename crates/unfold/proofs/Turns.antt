@@ -10,10 +10,10 @@ use lib.ListN.{length, take, drop, replicate, length-replicate}
 use Rattle.limits.specs.Book.{word_bits, row_words}
 use Rattle.sets.specs.Set.{Set}
 use Rattle.sets.proofs.Logic.{iff}
-use Rattle.areas.specs.Area.{part, put, begun, filled, cleared, Clear}
+use Rattle.areas.specs.Area.{begun, filled, cleared, Clear}
 use Rattle.rows.proofs.Reading.{Known, in_range}
 use Rattle.program.specs.System.{unfold_once, rows_after}
-use Rattle.areas.proofs.Begun.{drop_begun, used, begun_begun, put_front, zeros_front}
+use Rattle.areas.proofs.Begun.{drop_begun, used, begun_begun, zeros_front}
 use Rattle.areas.proofs.Filled.{front_cleared, filled_zeros}
 use Rattle.systems.specs.Rows.{row_in, packed, formed_rows}
 use Rattle.systems.specs.Fold.{folded_area}
@@ -78,21 +78,24 @@ module _ (w n m : ℕ) (all : List ℕ) (l : m ≤ n) (b : n ≤ w * word_bits) 
   module _ (d : ℕ) (now spare other : List ℕ) (e : now ≡ folded_rows w d m all)
       (f : other ≡ begun (packed w m (unfold_once n (row_in w now))) spare) where
     -- and back
-    pub two_folds : (new : List ℕ) → new ≡ begun (packed w m (unfold_once n (row_in w other))) now → new ≡ folded_rows w (d + 2) m all
-    two_folds new g =
-        let k : suc (suc d) ≡ d + 2 = omega arith in
+    pub two_folds : (k : ℕ) (new : List ℕ) → k ≡ d + 2 → new ≡ begun (packed w m (unfold_once n (row_in w other))) now → new ≡ folded_rows w k m all
+    two_folds k new ek g =
+        let two : suc (suc d) ≡ k = omega arith in
         fold_on (suc d) spare other now new (fold_on d all now spare other e f) g
         ∙ ap (begun (packed w m (after (suc (suc d))))) e ∙ over d (suc (suc d))
-        ∙ ap (λ (x : ℕ). folded_rows w x m all) k
+        ∙ ap (λ (x : ℕ). folded_rows w x m all) two
 
-    -- or copied back
-    pub one_fold : (new : List ℕ) (at : ℕ) → at ≡ m * w → new ≡ put 0 (part 0 at other) now → new ≡ folded_rows w (suc d) m all
-    one_fold new at ea g =
+    -- or their words copied back
+    pub one_fold : (k at : ℕ) (front : List ℕ) → k ≡ d + 1 → at ≡ m * w → front ≡ take at other → front ++ drop at now ≡ folded_rows w k m all
+    unfolding begun
+    one_fold k at front ek ea g =
+        let one : suc d ≡ k = omega arith in
         let size : at ≡ length (packed w m (after (suc d))) = omega (arith, length_packed w m (after (suc d))) in
-        g ∙ put_front (take at other) now
-        ∙ ap₂ (λ (k : ℕ) (xs : List ℕ). begun (take k xs) now) size (fold_on d all now spare other e f)
-        ∙ ap (λ (xs : List ℕ). begun xs now) (used (packed w m (after (suc d))) spare)
+        let rows : front ≡ packed w m (after (suc d)) =
+        g ∙ ap₂ take size (fold_on d all now spare other e f) ∙ used (packed w m (after (suc d))) spare in
+        ap₂ (λ (xs : List ℕ) (x : ℕ). xs ++ drop x now) rows size
         ∙ ap (begun (packed w m (after (suc d)))) e ∙ over d (suc d)
+        ∙ ap (λ (x : ℕ). folded_rows w x m all) one
 
 -- the folds are done
 pub folds_end : (d k m : ℕ) (all now : List ℕ) → now ≡ folded_rows row_words d m all → d ≡ k → now ≡ folded_area k m all
@@ -111,7 +114,8 @@ module _ (size v u : ℕ) (old spare mid : List ℕ) (k : u ≡ v) (l : v ≤ si
 
   -- it is zero
   pub spare_zero : (new : List ℕ) → new ≡ cleared u size mid → new ≡ filled size [] old
-  spare_zero new q = tail_cleared size u (replicate u 0) old mid (sym width) (omega (arith, width)) zeros new q ∙ filled_zeros size u old (omega arith)
+  spare_zero new q =
+      tail_cleared size u (replicate u 0) old mid (sym width) (omega (arith, width)) zeros new q ∙ filled_zeros size u old (omega arith)
 
   -- and was so past the rows, where it was clear before
   pub spare_clear : Clear size old → cleared u size mid ≡ mid

@@ -1,27 +1,29 @@
 -- A folded row made a word of the old row at a time: the rows of the atoms that each word names are united, lowest first. For any width.
 -- Assumes nothing.
-use mathlib.Core.Path.{◌≡◌, refl, sym, ap, ap₂, ◌∙◌}
-use mathlib.Core.List.{List}
+use mathlib.Core.Path.{◌≡◌, refl, sym, ap, ◌∙◌}
+use mathlib.Core.List.{List, ◌++◌}
 use mathlib.Core.Bool.{Bool, false, ◌&&◌, ◌||◌, or-false, or_assoc}
-use Prim.Native.Nat.{ℕ, ◌+◌, ◌-◌, ◌*◌, ◌^◌, ◌≤◌, ◌<◌}
-use native.Mathlib.Nat.{le_antisymm}
+use Prim.Native.Nat.{ℕ, ◌+◌, ◌-◌, ◌*◌, ◌^◌, ◌<◌}
 use native.Mathlib.Omega.{arith}
+use native.Mathlib.Numerals.{add-one}
 use lib.Bits.{bit_and, and_le_r}
 use lib.Count.{count_trailing_zeros}
-use lib.ListN.{length, get_or, replicate}
+use lib.ListN.{length, get_or, replicate, take, drop}
+use Rattle.std.proofs.lemmas.List.{drop-drop}
 use Rattle.limits.specs.Book.{word_bits}
 use Rattle.sets.specs.Set.{Set, exists, empty_set, union}
 use Rattle.sets.proofs.Logic.{clash, not-true, and_left}
 use Rattle.sets.proofs.Tests.{exists_find, exists_same, exists_one}
 use Rattle.sets.proofs.Ranges.{exists_add}
-use Rattle.areas.specs.Area.{part, put}
+use Rattle.areas.specs.Area.{part, begun}
 use Rattle.words.specs.Row.{bit, row, pack}
 use Rattle.words.proofs.Bits.{bit_zero, bit_lowest, trailing_lt}
 use Rattle.words.proofs.Rows.{row_word, row_pack, length_pack, pack_same, pack_row, pack_empty}
-use Rattle.areas.proofs.Parts.{part_whole, put_whole}
 use Rattle.rows.proofs.Reading.{Known, in_range, word_of}
+use Rattle.rows.proofs.Walking.{trailing_fits}
 use Rattle.program.specs.System.{unfold_once}
-use Rattle.systems.specs.Rows.{row_in}
+use Rattle.systems.specs.Rows.{row_in, packed}
+use Rattle.systems.proofs.Packed.{packed_none, put_next}
 
 -- One word.
 
@@ -49,6 +51,14 @@ lowest_lt k w x l h n = let t : count_trailing_zeros word_bits x < word_bits = t
 pub rest_less : (x : ℕ) → (x ≡ 0 → ⊥) → bit_and x (x - 1) < x
 rest_less x n = omega (arith, and_le_r x (x - 1), n)
 
+-- the words of the row `to` with the rows that x names united into it
+pub uniting : ℕ → List ℕ → ℕ → ℕ → List ℕ → List ℕ
+uniting w from k x to = pack w (union (row to) (named w from k x))
+
+pub uniting_is : (w : ℕ) (from : List ℕ) (k x : ℕ) (to : List ℕ) → uniting w from k x to ≡ pack w (union (row to) (named w from k x))
+unfolding uniting
+uniting_is w from k x to = refl
+
 -- x as word k is not 0: its lowest atom and the rest
 module _ (w : ℕ) (from : List ℕ) (k x : ℕ) (h : x < 2 ^ word_bits) (n : x ≡ 0 → ⊥) where
   named_more : (a : ℕ) → named w from k x a ≡ row_in w from (lowest k x) a || named w from k (bit_and x (x - 1)) a
@@ -57,29 +67,29 @@ module _ (w : ℕ) (from : List ℕ) (k x : ℕ) (h : x < 2 ^ word_bits) (n : x 
       (trailing_lt word_bits x h n) (λ b. bit_lowest word_bits x b h n)
 
   -- with the row of the lowest united, the rest is left to unite, and the union of all is the same
-  pub named_on : (to new : List ℕ) (start : ℕ) → length to ≡ w → start ≡ lowest k x * w
-      → new ≡ put 0 (pack w (union (row (part 0 w to)) (row (part start w from)))) to
-      → pack w (union (row new) (named w from k (bit_and x (x - 1)))) ≡ pack w (union (row to) (named w from k x))
-  named_on to new start e es u =
+  pub uniting_on : (to : List ℕ) → length to ≡ w
+      → uniting w from k x to ≡ uniting w from k (bit_and x (x - 1)) (pack (length to) (union (row to) (row (part (lowest k x * w) w from))))
+  unfolding uniting
+  uniting_on to e =
       let f : Set = union (row to) (row_in w from (lowest k x)) in
-      let is : new ≡ pack w f =
-      u ∙ put_whole (pack w (union (row (part 0 w to)) (row (part start w from)))) to
-      (e ∙ sym (length_pack w (union (row (part 0 w to)) (row (part start w from)))))
-      ∙ ap₂ (λ (ws : List ℕ) (p : ℕ). pack w (union (row ws) (row (part p w from)))) (part_whole w to e) es in
-      pack_same w (union (row new) (named w from k (bit_and x (x - 1)))) (union (row to) (named w from k x))
+      let new : List ℕ = pack (length to) f in
+      let is : new ≡ pack w f = ap (λ (n : ℕ). pack n f) e in
+      sym (pack_same w (union (row new) (named w from k (bit_and x (x - 1)))) (union (row to) (named w from k x))
       (λ a l.
       ap (λ (b : Bool). b || named w from k (bit_and x (x - 1)) a) (ap (λ (ws : List ℕ). row ws a) is ∙ row_pack w f a l)
       ∙ or_assoc (row to a) (row_in w from (lowest k x) a) (named w from k (bit_and x (x - 1)) a)
-      ∙ ap (λ (b : Bool). row to a || b) (sym (named_more a)))
+      ∙ ap (λ (b : Bool). row to a || b) (sym (named_more a))))
 
 -- 0 leaves nothing to unite
-pub named_end : (w : ℕ) (from : List ℕ) (k x : ℕ) (to : List ℕ) (g : Set) → length to ≡ w → Known to → x ≡ 0
-    → pack w (union (row to) (named w from k x)) ≡ pack w g → to ≡ pack w g
-named_end w from k x to g e p z q =
-    sym (pack_row to (in_range to p)) ∙ ap (λ (v : ℕ). pack v (row to)) e
-    ∙ pack_same w (row to) (union (row to) (named w from k x))
-    (λ a l. sym (ap (λ (b : Bool). row to a || b) (ap (λ (y : ℕ). named w from k y a) z ∙ named_none w from k a) ∙ or-false (row to a)))
-    ∙ q
+pub uniting_end : (w : ℕ) (from : List ℕ) (k x : ℕ) (to : List ℕ) → length to ≡ w → Known to → x ≡ 0 → uniting w from k x to ≡ to
+unfolding uniting
+uniting_end w from k x to e p z =
+    pack_same w (union (row to) (named w from k x)) (row to)
+    (λ a l. ap (λ (b : Bool). row to a || b) (ap (λ (y : ℕ). named w from k y a) z ∙ named_none w from k a) ∙ or-false (row to a))
+    ∙ ap (λ (v : ℕ). pack v (row to)) (sym e) ∙ pack_row to (in_range to p)
+
+-- the laws of `fold_word`
+pub ruleset uniting_words = (trailing_fits, lowest_lt, rest_less, uniting_on, uniting_end, uniting_is)
 
 -- The words of row i.
 
@@ -108,20 +118,26 @@ module _ (w : ℕ) (from : List ℕ) (i : ℕ) where
       ap (λ (c : Bool). c && row_in w from (k * word_bits + b) a)
       (row_word (part (i * w) w from) k b g ∙ ap (λ (x : ℕ). bit x b) (word_of (i * w) w from k l))))
 
-  pub folded_on : (at k : ℕ) (old new : List ℕ) → at ≡ i * w → k < w → old ≡ folded_below k
-      → new ≡ pack w (union (row old) (named w from k (get_or from (at + k) 0))) → new ≡ folded_below (k + 1)
-  folded_on at k old new ea l e u =
+  pub folded_on : (k : ℕ) → k < w → folded_below (k + 1) ≡ pack w (union (row (folded_below k)) (named w from k (get_or from (i * w + k) 0)))
+  folded_on k l =
       let f : Set = unfold_once (k * word_bits) (row_in w from) i in
-      u
-      ∙ ap₂ (λ (ws : List ℕ) (p : ℕ). pack w (union (row ws) (named w from k (get_or from (p + k) 0)))) e ea
-      ∙ pack_same w (union (row (pack w f)) (named w from k (get_or from (i * w + k) 0))) (unfold_once ((k + 1) * word_bits) (row_in w from) i)
-      (λ a b. ap (λ (c : Bool). c || named w from k (get_or from (i * w + k) 0) a) (row_pack w f a b) ∙ sym (unfold_word k a l))
+      sym (pack_same w (union (row (pack w f)) (named w from k (get_or from (i * w + k) 0))) (unfold_once ((k + 1) * word_bits) (row_in w from) i)
+      (λ a b. ap (λ (c : Bool). c || named w from k (get_or from (i * w + k) 0) a) (row_pack w f a b) ∙ sym (unfold_word k a l)))
 
-  -- of all, copied to its place
-  pub folded_all : (at k : ℕ) (made old new : List ℕ) → at ≡ i * w → k ≤ w → w ≤ k → made ≡ folded_below k
-      → new ≡ put at (part 0 w made) old → new ≡ put (i * w) (pack w (unfold_once (w * word_bits) (row_in w from) i)) old
-  folded_all at k made old new ea l m e u =
-      let is : made ≡ folded_below w = e ∙ ap folded_below (le_antisymm l m) in
-      u
-      ∙ ap₂ (λ (p : ℕ) (ws : List ℕ). put p ws old) ea
-      (part_whole w made (ap length is ∙ length_pack w (unfold_once (w * word_bits) (row_in w from) i)) ∙ is)
+-- the laws of `fold_row`
+pub ruleset folding = (folded_none, folded_on)
+
+-- The rows one after another.
+
+-- row m put after those below it, as its slice comes back
+pub put_row : (w m : ℕ) (rows : ℕ → Set) (old : List ℕ)
+    → begun (packed w (m + 1) rows) old
+    ≡ take (m * w) (begun (packed w m rows) old) ++ (pack w (rows m) ++ drop w (drop (m * w) (begun (packed w m rows) old)))
+put_row w m rows old =
+    let b : List ℕ = begun (packed w m rows) old in
+    ap (λ (k : ℕ). begun (packed w k rows) old) (add-one m) ∙ sym (put_next w m rows old)
+    ∙ ap (λ (ys : List ℕ). take (m * w) b ++ (pack w (rows m) ++ ys))
+    (ap (λ (k : ℕ). drop (m * w + k) b) (length_pack w (rows m)) ∙ sym (drop-drop w (m * w) b))
+
+-- the laws of the fold of all rows
+pub ruleset putting = (packed_none, put_row)

@@ -1,96 +1,132 @@
 // The public call that folds rows, each fold from the rows before it, by turns into the spare and back; and its work without the tests.
 #![tactic(auto)]
 
-ghost use Rattle.std.specs.Prelude.{◌≡◌, true, ◌&&◌, [], ◌+◌, ◌*◌, ◌<◌, ◌≤◌, length};
+ghost use Rattle.std.specs.Prelude.{◌≡◌, true, ◌&&◌, [], ◌+◌, ◌*◌, ◌<◌, ◌≤◌, length, drop};
 ghost use Rattle.limits.specs.Book.{atoms, folds, word_bits, row_words, row_area};
+ghost use Rattle.limits.specs.Refusal.{number_in};
 ghost use Rattle.sets.specs.Set.{exists, union};
-ghost use Rattle.areas.specs.Area.{put, begun, filled, Clear};
+ghost use Rattle.areas.specs.Area.{begun, filled, Clear};
 ghost use Rattle.words.specs.Row.{bit, row, pack};
 ghost use Rattle.program.specs.System.{unfold_once};
 ghost use Rattle.systems.specs.Rows.{row_in, packed, formed_rows};
 ghost use Rattle.systems.specs.Fold.{folded_area, fold_call};
 
 use limits::{Book, Refusal};
-use rows::clear::{clear_stale64, clear_tail64};
-use rows::write::{copy, unite};
+use rows::clear::{clear, clear_stale};
+use rows::row;
+use std::marker::Model;
 
-// The rows of the atoms that `word` names, as word k of a row, join the row `to`. Each turn takes the lowest bit out of the rest.
-fn fold_word(from: &[u64], to: &mut [u64], word: u64, k: usize)
-    requires { (k < row_words) × (row_area ≤ length from.now) × (length to.old ≡ row_words) }
-    ensures { to.new ≡ pack row_words (union (row to.old) (λ a. exists word_bits (λ b. bit word b && row_in row_words from.now (k * word_bits + b) a))) }
-{
-    let mut rest = word;
-    while rest != 0 {
-        let j = k * Book::WORD_BITS + u64::trailing_zeros(rest) as usize;
-        unite(to, 0, from, Book::row_at(j), Book::ROW_WORDS);
-        rest = rest & (rest - 1);
+// The rows before a fold, in an area of their stated size.
+#[derive(Drop)]
+struct Rows<'a> {
+    words: &'a [u64],
+}
+
+impl<'a> Model for Rows<'a> {
+    ghost use Rattle.std.specs.Prelude.{List, ℕ, ◌≤◌, length};
+    ghost use Rattle.limits.specs.Book.{row_area};
+
+    ghost Value = { List ℕ };
+
+    ghost view = { λ r. r.words.now };
+
+    ghost invariant = { λ r. row_area ≤ length r.words.now };
+}
+
+impl<'a> Rows<'a> {
+    // The rows of the atoms that `word` names, as word k of a row, join the row `to`. Each turn takes the lowest bit out of the rest.
+    #[tactic(auto, using(crate::proofs::Uniting::uniting_words))]
+    fn fold_word(&self, to: &mut [u64], word: u64, k: usize)
+        requires { (k < row_words) × (length to.old ≡ row_words) }
+        ensures { to.new ≡ pack row_words
+            (union (row to.old) (λ a. exists word_bits (λ b. bit word b && row_in row_words self.now (k * word_bits + b) a))) }
+    {
+        let mut rest = word;
+        while rest != 0 {
+            let j = k * Book::WORD_BITS + rest.trailing_zeros() as usize;
+            let at = Book::row_at(j);
+            row::unite(to, &self.words[at..at + Book::ROW_WORDS]);
+            rest &= rest - 1;
+        }
+    }
+
+    // Row i after the fold: the union of the rows j for all j in row i.
+    #[tactic(auto, using(crate::proofs::Uniting::folding))]
+    fn fold_row(&self, i: usize) -> [u64; Book::ROW_WORDS]
+        requires { i < atoms }
+        ensures { result ≡ pack row_words (unfold_once atoms (row_in row_words self.now) i) }
+    {
+        let at = Book::row_at(i);
+        let mut new = [0; Book::ROW_WORDS];
+        for k in 0..Book::ROW_WORDS {
+            self.fold_word(&mut new, self.words[at + k], k);
+        }
+        new
+    }
+
+    // The first count rows after the fold are put into `to`.
+    #[tactic(auto, using(crate::proofs::Uniting::putting))]
+    fn fold(&self, to: &mut [u64], count: usize)
+        requires { (count ≤ atoms) × (row_area ≤ length to.old) }
+        ensures { to.new ≡ begun (packed row_words count (unfold_once atoms (row_in row_words self.now))) to.old }
+    {
+        for i in 0..count {
+            let at = Book::row_at(i);
+            to[at..at + Book::ROW_WORDS].copy_from_slice(&self.fold_row(i));
+        }
     }
 }
 
-// Row i of `to` becomes the union of the rows j of `from` for all j in row i of `from`.
-fn fold_row(from: &[u64], to: &mut [u64], i: usize)
-    requires { (i < atoms) × (row_area ≤ length from.now) × (row_area ≤ length to.old) }
-    ensures { to.new ≡ put (i * row_words) (pack row_words (unfold_once atoms (row_in row_words from.now) i)) to.old }
+// k folds of the first count rows by turns into the spare and back; no row is copied but after an odd number of them. What the spare has past
+// the rows is left.
+// The areas stay parameters: the public calls are lent them one by one, and a struct of the two would serve this function alone.
+fn fold_turns(all: &mut [u64], spare: &mut [u64], count: usize, k: usize)
+    requires { (count ≤ atoms) × (k ≤ folds) × (row_area ≤ length all.old) × (row_area ≤ length spare.old)
+        × (formed_rows row_words atoms count all.old ≡ true) }
+    ensures all { all.new ≡ folded_area k count all.old }
+    ensures spare { drop (count * row_words) spare.new ≡ drop (count * row_words) spare.old }
 {
-    let at = Book::row_at(i);
-    let mut new = [0u64; Book::ROW_WORDS];
-    let mut k = 0;
-    while k < Book::ROW_WORDS {
-        fold_word(from, &mut new, from[at + k], k);
-        k += 1;
+    for _ in 0..k / 2 {
+        Rows { words: all }.fold(spare, count);
+        Rows { words: spare }.fold(all, count);
     }
-    copy(to, at, &new, 0, Book::ROW_WORDS);
+    let even = k % 2 == 0;
+    if even {
+        return;
+    }
+    Rows { words: all }.fold(spare, count);
+    let used = Book::row_at(count);
+    all[..used].copy_from_slice(&spare[..used]);
 }
 
-// One fold of the first count rows.
-fn fold_rows(from: &[u64], to: &mut [u64], count: usize)
-    requires { (count ≤ atoms) × (row_area ≤ length from.now) × (row_area ≤ length to.old) }
-    ensures { to.new ≡ begun (packed row_words count (unfold_once atoms (row_in row_words from.now))) to.old }
-{
-    let mut i = 0;
-    while i < count {
-        fold_row(from, to, i);
-        i += 1;
-    }
-}
-
-// k folds of the first count rows; no row is copied but after an odd number of them. Afterwards the spare is zero. For a caller that knows
-// its rows to be in order, as after standardising: they are not judged again. Nor is a spare cleared past them that it knows to be clear
-// (fresh).
+// k folds of the first count rows, after which the spare is zero. For a caller that knows its rows to be in order, as after standardising:
+// they are not judged again. Nor is a spare cleared past them that it knows to be clear (fresh).
 pub fn fold_formed(all: &mut [u64], spare: &mut [u64], count: usize, k: usize, fresh: bool)
-    requires { (count ≤ atoms) × (k ≤ folds) × (row_area ≤ length all.old) × (row_area ≤ length spare.old) × (formed_rows row_words atoms count all.old ≡ true) × (fresh ≡ true → Clear row_area spare.old) }
+    requires { (count ≤ atoms) × (k ≤ folds) × (row_area ≤ length all.old) × (row_area ≤ length spare.old)
+        × (formed_rows row_words atoms count all.old ≡ true) × (fresh ≡ true → Clear row_area spare.old) }
     ensures all { all.new ≡ folded_area k count all.old }
     ensures spare { spare.new ≡ filled row_area [] spare.old }
 {
-    let mut done = 0;
-    while done + 1 < k {
-        fold_rows(all, spare, count);
-        fold_rows(spare, all, count);
-        done += 2;
-    }
-    if done < k {
-        fold_rows(all, spare, count);
-        copy(all, 0, spare, 0, Book::row_at(count));
-    }
+    fold_turns(all, spare, count, k);
     let unused = Book::row_at(count);
-    clear_tail64(spare, 0, unused);
-    clear_stale64(spare, unused, Book::ROW_AREA, fresh);
+    clear(spare, 0, unused);
+    clear_stale(spare, unused, Book::ROW_AREA, fresh);
 }
 
-// Judges the rows of count atoms, makes k folds of them, and clears the spare; returns 0, or the number of a refusal, which leaves all as it was.
-pub fn fold(all: &mut [u64], spare: &mut [u64], count: usize, k: usize) -> usize
-    ensures { record { number = result; all = all.new; spare = spare.new } ≡ fold_call all.old spare.old count k }
+// Judges the rows of count atoms, makes k folds of them, and clears the spare; a refusal leaves all as it was.
+#[tactic(auto, using(crate::proofs::Outcomes::refusing))]
+pub fn fold(all: &mut [u64], spare: &mut [u64], count: usize, k: usize) -> Result<(), Refusal>
+    ensures { record { number = number_in result; all = all.new; spare = spare.new } ≡ fold_call all.old spare.old count k }
 {
-    let short = spare.len() < Book::ROW_AREA;
-    if all.len() < Book::ROW_AREA || short {
-        return Refusal::SHORT_AREA;
+    if all.len() < Book::ROW_AREA || spare.len() < Book::ROW_AREA {
+        return Err(Refusal::ShortArea);
     }
     if Book::FOLDS < k {
-        return Refusal::FOLDS;
+        return Err(Refusal::Folds);
     }
     if !rowcheck::formed(all, count) {
-        return Refusal::ILL_FORMED;
+        return Err(Refusal::IllFormed);
     }
     fold_formed(all, spare, count, k, false);
-    0
+    Ok(())
 }

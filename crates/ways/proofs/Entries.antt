@@ -1,7 +1,7 @@
 -- Tables in order: what each test of an entry, and of the counts, settles.
 -- Assumes nothing.
 use mathlib.Core.Path.{◌≡◌, sym, ap, ◌∙◌}
-use mathlib.Core.Bool.{Bool, true, false, not, ◌&&◌, and-false}
+use mathlib.Core.Bool.{Bool, false, not, ◌&&◌, and-false}
 use mathlib.Core.List.{List}
 use Prim.Native.Nat.{ℕ, ◌-◌, ◌*◌, ◌≤◌, ◌<◌}
 use lib.Dec.{eqb, leb, ltb}
@@ -9,7 +9,6 @@ use lib.ListN.{get_or}
 use borrow.Author.Tests.{eq-eqb, ne_eqb, lt-ltb, le-ltb, le-leb, lt-leb}
 use Rattle.limits.specs.Book.{names, rules, word_bits, body_words}
 use Rattle.sets.specs.Set.{every, exists, within, next}
-use Rattle.sets.proofs.Every.{every_off, every_end}
 use Rattle.sets.proofs.Walk.{next_within}
 use Rattle.areas.specs.Area.{part}
 use Rattle.words.specs.Row.{row}
@@ -39,14 +38,12 @@ module _ (tables : RuleTables) (counts : Counts) where
         ∙ sym (entry_used tables counts j l)
 
     -- a head below n: the first name of the body from n on decides
-    pub body_decides : (at r : ℕ) → j < m → get_or heads j 0 < n → n ≤ names → at ≡ j * body_words
-        → r ≡ next (body_words * word_bits - n) (row (part at body_words bodies)) n
-        → eqb r names ≡ formed_entry tables counts j
-    body_decides at r l h k e q =
-        ap (λ (x : ℕ). eqb x names) (q ∙ ap (λ (i : ℕ). next (body_words * word_bits - n) (row (part i body_words bodies)) n) e)
-        ∙ next_within (body_words * word_bits) n (row_in body_words bodies j) k
-        ∙ ap (λ (b : Bool). b && within (body_words * word_bits) (row_in body_words bodies j) (λ a. ltb a n)) (sym (lt-ltb (get_or heads j 0) n h))
-        ∙ sym (entry_used tables counts j l)
+    pub body_decides : j < m → get_or heads j 0 < n → n ≤ names
+        → formed_entry tables counts j ≡ eqb (next (body_words * word_bits - n) (row (part (j * body_words) body_words bodies)) n) names
+    body_decides l h k =
+        entry_used tables counts j l
+        ∙ ap (λ (b : Bool). b && within (body_words * word_bits) (row_in body_words bodies j) (λ a. ltb a n)) (lt-ltb (get_or heads j 0) n h)
+        ∙ sym (next_within (body_words * word_bits) n (row_in body_words bodies j) k)
 
     -- an unused head that is not zero
     pub head_left : m ≤ j → (get_or heads j 0 ≡ 0 → ⊥) → false ≡ formed_entry tables counts j
@@ -74,15 +71,9 @@ module _ (tables : RuleTables) (counts : Counts) where
       sym (ap (λ (b : Bool). b && every rules (formed_entry tables counts)) (ap (λ (b : Bool). leb n names && b) (lt-leb m rules l) ∙ and-false (leb n names)))
 
   -- within the limits the entries decide
-  entries : n ≤ names → m ≤ rules → every rules (formed_entry tables counts) ≡ formed_tables tables counts
+  pub entries : n ≤ names → m ≤ rules → every rules (formed_entry tables counts) ≡ formed_tables tables counts
   unfolding formed_tables
   entries l k = sym (rw (le-leb n names l, le-leb m rules k))
 
-  -- an entry that is not in order
-  pub entry_off : (j : ℕ) → n ≤ names → m ≤ rules → j < rules → formed_entry tables counts j ≡ false → false ≡ formed_tables tables counts
-  entry_off j l k b e = every_off j rules (formed_entry tables counts) b e ∙ entries l k
-
-  -- past the last entry all are in order
-  pub entries_end : (j : ℕ) → n ≤ names → m ≤ rules → j ≤ rules → rules ≤ j → every j (formed_entry tables counts) ≡ true
-      → true ≡ formed_tables tables counts
-  entries_end j l k a b e = every_end j rules (formed_entry tables counts) a b e ∙ entries l k
+-- an entry, test by test
+pub ruleset entry_tests = (head_over, body_decides, head_left, body_left)

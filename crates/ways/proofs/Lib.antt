@@ -1,3 +1,5 @@
 pub mod Entries
 pub mod Names
 pub mod Counts
+pub mod Ranges
+pub mod Judged

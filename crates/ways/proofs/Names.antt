@@ -4,7 +4,6 @@ use mathlib.Core.Path.{◌≡◌, refl, sym, ap, subst, ◌∙◌}
 use mathlib.Core.Bool.{Bool, true, false, ◌||◌}
 use mathlib.Core.List.{List}
 use Prim.Native.Nat.{ℕ, suc, ◌+◌, ◌*◌, ◌≤◌, ◌<◌}
-use native.Mathlib.Nat.{le_antisymm}
 use native.Mathlib.Numerals.{add-one}
 use native.Mathlib.Omega.{arith}
 use lib.Dec.{eqb, leb}
@@ -16,7 +15,7 @@ use Rattle.sets.proofs.Logic.{either, or_right, pick_true, pick_false}
 use Rattle.sets.proofs.Counting.{count_in, count_out}
 use Rattle.areas.specs.Area.{part, put, begun}
 use Rattle.words.specs.Row.{row, pack}
-use Rattle.words.proofs.Rows.{length_pack, pack_same, pack_empty}
+use Rattle.words.proofs.Rows.{length_pack, pack_same, pack_empty, row_pack}
 use Rattle.areas.proofs.Begun.{put_front, begun_whole}
 use Rattle.systems.proofs.Packed.{set_row, set_joined}
 use Rattle.ways.specs.Ways.{met_names, several_names}
@@ -108,10 +107,10 @@ module _ (heads : List ℕ) (j : ℕ) where
 
   -- the two rows after one rule more
   module _ (w : ℕ) (once twice : List ℕ) (p : once ≡ pack w (met_names heads j)) (q : twice ≡ pack w (several_names heads j)) (h : a < w * word_bits) where
-    was : row (part 0 w once) a ≡ met_names heads j a
-    was = row_whole w (met_names heads j) once p a h
+    was : row once a ≡ met_names heads j a
+    was = ap (λ (ws : List ℕ). row ws a) p ∙ row_pack w (met_names heads j) a h
 
-    pub once_more : pick (row (part 0 w once) a) once (member w a once) ≡ pack w (met_names heads (j + 1))
+    pub once_more : pick (row once a) once (member w a once) ≡ pack w (met_names heads (j + 1))
     once_more =
         either (met_names heads j a)
         (λ t. pick_true once (member w a once) (was ∙ t) ∙ p ∙ pack_same w (met_names heads j) (met_names heads (j + 1)) (λ b l. met_kept t b))
@@ -120,7 +119,7 @@ module _ (heads : List ℕ) (j : ℕ) where
         ∙ put_member w a (met_names heads j) once p
         ∙ pack_same w (union (met_names heads j) (only a)) (met_names heads (j + 1)) (λ b l. met_more b))
 
-    pub twice_more : pick (row (part 0 w once) a) (member w a twice) twice ≡ pack w (several_names heads (j + 1))
+    pub twice_more : pick (row once a) (member w a twice) twice ≡ pack w (several_names heads (j + 1))
     twice_more =
         either (met_names heads j a)
         (λ t.
@@ -131,28 +130,3 @@ module _ (heads : List ℕ) (j : ℕ) where
         pick_false (member w a twice) twice (was ∙ t)
         ∙ q
         ∙ pack_same w (several_names heads j) (several_names heads (j + 1)) (λ b l. several_kept t b))
-
--- a row of names has its words
-pub length_names : (f : Set) (xs : List ℕ) → xs ≡ pack body_words f → length xs ≡ body_words
-length_names f xs e = ap length e ∙ length_pack body_words f
-
--- past the last rule they are those of all rules
-pub several_end : (heads : List ℕ) (j m : ℕ) (xs : List ℕ) → j ≤ m → m ≤ j → xs ≡ pack body_words (several_names heads j)
-    → xs ≡ pack body_words (several_names heads m)
-several_end heads j m xs l k e = e ∙ ap (λ (i : ℕ). pack body_words (several_names heads i)) (le_antisymm l k)
-
--- before the first rule none is counted
-pub counted_none : (f : Set) → 0 ≡ count 0 f
-unfolding count
-counted_none f = refl
-
--- one rule more, counted or not
-pub counted_in : (j n : ℕ) (f : Set) → n ≡ count j f → f j ≡ true → n + 1 ≡ count (j + 1) f
-counted_in j n f e t = add-one n ∙ ap suc e ∙ sym (count_in j f t) ∙ ap (λ (i : ℕ). count i f) (sym (add-one j))
-
-pub counted_out : (j n : ℕ) (f : Set) → n ≡ count j f → f j ≡ false → n ≡ count (j + 1) f
-counted_out j n f e t = e ∙ sym (count_out j f t) ∙ ap (λ (i : ℕ). count i f) (sym (add-one j))
-
--- past the last rule
-pub counted_end : (j m n : ℕ) (f : Set) → j ≤ m → m ≤ j → n ≡ count j f → n ≡ count m f
-counted_end j m n f l k e = e ∙ ap (λ (i : ℕ). count i f) (le_antisymm l k)

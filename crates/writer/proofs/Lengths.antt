@@ -1,78 +1,63 @@
 -- The length of the written text, summed as the code sums it.
 -- Assumes nothing.
-use mathlib.Core.Path.{◌≡◌, sym, ap}
+use mathlib.Core.Path.{◌≡◌, ap}
 use mathlib.Core.List.{List, ◌∷◌, map}
 use Prim.Native.Nat.{ℕ, ◌+◌, ◌-◌, ◌*◌, ◌≤◌, ◌<◌}
 use native.Mathlib.Omega.{arith}
 use lib.ListN.{length, get_or, length-append}
-use Rattle.limits.specs.Book.{names, name_bytes, body_words}
+use Rattle.limits.specs.Book.{names, body_words}
 use Rattle.sets.specs.Set.{next}
 use Rattle.areas.specs.Area.{part}
 use Rattle.words.specs.Row.{row}
 use Rattle.grammar.specs.Bytes.{Bytes, colon, line_end}
 use Rattle.grammar.specs.Grammar.{mark, joined}
-use Rattle.tables.specs.Areas.{RuleTables, rule_tables, name_at, names_in, rule_at, rules_in}
+use Rattle.tables.specs.Areas.{RuleTables, rule_tables, names_in, rule_at, rules_in}
 use Rattle.tables.specs.Writing.{rule_text, written}
-use Rattle.tables.proofs.Encoding.{name_fits}
-use Rattle.writer.specs.Spelt.{name_spelt, rest_of}
-use Rattle.writer.proofs.Lines.{spelt_yes, spelt_no, after, after_start, after_on, after_end, body_text, line, body_bare, body_full}
+use Rattle.writer.specs.Spelt.{name_spelt, names_past}
+use Rattle.writer.proofs.Lines.{after, after_start, after_on, after_end, body_text, line_is, body_bare, body_full}
 use Rattle.writer.proofs.Lines.{lines_from, lines_start, written_is, lines_on, lines_end}
 
--- a name's length from its first place and its last
-pub name_long : (area : Bytes) (n a from end : ℕ) → from ≡ a * name_bytes → end ≡ a * name_bytes + length (name_at area a) → a < n
-    → end - from ≡ length (name_spelt area n a)
-name_long area n a from end e f l = omega (arith, ap length (spelt_yes area n a l))
-
--- it is no longer than its row
-pub name_short : (area : Bytes) (a from end : ℕ) → from ≡ a * name_bytes → end ≡ a * name_bytes + length (name_at area a)
-    → end - from ≤ name_bytes
-name_short area a from end e f = omega (arith, name_fits area a)
-
--- no name has no length
-pub none_long : (area : Bytes) (n a : ℕ) → n ≤ a → 0 ≡ length (name_spelt area n a)
-none_long area n a l = sym (ap length (spelt_no area n a l))
-
 -- a body from stop to stop, t bytes in all
-module _ (area : Bytes) (n : ℕ) (bodies : List ℕ) (at : ℕ) where
+module _ (area : Bytes) (n : ℕ) (words : List ℕ) where
   -- at the first stop
-  pub rest_start : (from a : ℕ) → from ≤ names → a ≡ next (names - from) (row (part at body_words bodies)) from
-      → 0 + length (after area n bodies at a) ≡ length (rest_of area n bodies at from)
-  rest_start from a l e = omega (arith, ap length (after_start area n bodies at from a l e))
+  pub rest_start : (from a : ℕ) → from ≤ names → a ≡ next (names - from) (row words) from
+      → 0 + length (after area n words a) ≡ length (names_past area n words from)
+  rest_start from a l e = omega (arith, ap length (after_start area n words from a l e))
 
   -- a name and the space before it
-  pub rest_on : (t len a k r : ℕ) → len + length (after area n bodies at a) ≡ t → a < names → k ≡ length (name_spelt area n a)
-      → r ≡ next (names - (a + 1)) (row (part at body_words bodies)) (a + 1)
-      → (len + (1 + k)) + length (after area n bodies at r) ≡ t
+  pub rest_on : (t len a k r : ℕ) → len + length (after area n words a) ≡ t → a < names → k ≡ length (name_spelt area n a)
+      → r ≡ next (names - (a + 1)) (row words) (a + 1)
+      → (len + (1 + k)) + length (after area n words r) ≡ t
   rest_on t len a k r i l q e =
-      omega (arith, ap length (after_on area n bodies at a r l e), length-append (name_spelt area n a) (after area n bodies at r))
+      omega (arith, ap length (after_on area n words a r l e), length-append (name_spelt area n a) (after area n words r))
 
   -- at the end
-  pub rest_end : (t len a : ℕ) → len + length (after area n bodies at a) ≡ t → names ≤ a → len ≡ t
-  rest_end t len a i l = omega (arith, ap length (after_end area n bodies at a l))
+  pub rest_end : (t len a : ℕ) → len + length (after area n words a) ≡ t → names ≤ a → len ≡ t
+  rest_end t len a i l = omega (arith, ap length (after_end area n words a l))
 
--- rule j, its body's row at `at` and the first stop at a, h the length of its head
-module _ (area : Bytes) (n : ℕ) (heads bodies : List ℕ) (j at a h : ℕ)
-    (p : at ≡ j * body_words) (e : a ≡ next names (row (part at body_words bodies)) 0) (q : h ≡ length (name_spelt area n (get_or heads j 0))) where
+-- rule j, whose head is `head`, h bytes long, and whose body is in `words`, its first stop at a
+module _ (area : Bytes) (n : ℕ) (heads bodies : List ℕ) (j head a h : ℕ) (words : List ℕ) (s : head ≡ get_or heads j 0)
+    (p : words ≡ part (j * body_words) body_words bodies) (e : a ≡ next (names - 0) (row words) 0) (q : h ≡ length (name_spelt area n head)) where
   -- an empty body
   pub rule_bare : names ≤ a → h + 1 ≡ length (rule_text (names_in area n) (rule_at (rule_tables heads bodies) j))
   rule_bare l =
       omega (
         arith,
-        ap length (line area n heads bodies j),
-        length-append (name_spelt area n (get_or heads j 0)) (colon ∷ body_text area n bodies j),
-        ap length (body_bare area n bodies j at a p e l),
+        ap length (line_is area n heads bodies j head words s p),
+        length-append (name_spelt area n head) (colon ∷ body_text area n words),
+        ap length (body_bare area n words a e l),
       )
 
   -- a first name and the rest
-  pub rule_full : (k r : ℕ) → a < names → k ≡ length (name_spelt area n a) → r ≡ length (rest_of area n bodies at (a + 1))
+  pub rule_full : (k r : ℕ) → a < names → k ≡ length (name_spelt area n a) → r ≡ length (names_past area n words (a + 1))
       → ((h + 1) + k) + r ≡ length (rule_text (names_in area n) (rule_at (rule_tables heads bodies) j))
   rule_full k r l u v =
       omega (
         arith,
-        ap length (line area n heads bodies j),
-        length-append (name_spelt area n (get_or heads j 0)) (colon ∷ body_text area n bodies j),
-        ap length (body_full area n bodies j at a p e l),
-        length-append (name_spelt area n a) (rest_of area n bodies at (a + 1)),
+        ap length (line_is area n heads bodies j head words s p),
+        length-append (name_spelt area n head) (colon ∷ body_text area n words),
+        ap length (body_full area n words a e l),
+        length-append (name_spelt area n a) (names_past area n words (a + 1)),
       )
 
 -- rule after rule, t bytes in all

@@ -1,4 +1,5 @@
 pub mod Lines
 pub mod Lengths
+pub mod Pages
 pub mod Rules
 pub mod Calls

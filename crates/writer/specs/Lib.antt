@@ -1,2 +1,3 @@
 pub mod Spelt
 pub mod Short
+pub mod Pages

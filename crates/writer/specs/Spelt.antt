@@ -9,14 +9,20 @@ use Rattle.grammar.specs.Bytes.{Bytes}
 use Rattle.grammar.specs.Grammar.{joined}
 use Rattle.tables.specs.Areas.{rule_tables, names_in, rule_at, rules_in}
 use Rattle.tables.specs.Writing.{spaced_on, rule_text, written}
+use Rattle.tablecheck.specs.Lent.{Names}
+use Rattle.tablecheck.specs.declared.Tables.{Tables}
 
 -- name a of the first n, nothing where a is not below n
 unfoldable pub name_spelt : Bytes → ℕ → ℕ → Bytes
 name_spelt area n a = get_or (names_in area n) a []
 
--- the names of the body at place `at` from number a on, each after a space
-unfoldable pub rest_of : Bytes → ℕ → List ℕ → ℕ → ℕ → Bytes
-rest_of area n bodies at a = spaced_on (map (name_spelt area n) (members (names - a) (row (part at body_words bodies)) a))
+-- the names of the body in `words` from number a on, each after a space
+unfoldable pub names_past : Bytes → ℕ → List ℕ → ℕ → Bytes
+names_past area n words a = spaced_on (map (name_spelt area n) (members (names - a) (row words) a))
+
+-- those of the body at place `at`
+abbrev pub rest_of : Bytes → ℕ → List ℕ → ℕ → ℕ → Bytes
+rest_of area n bodies at a = names_past area n (part at body_words bodies) a
 
 -- rule j of heads and bodies as its line has it
 abbrev pub line_of : Bytes → List ℕ → List ℕ → ℕ → ℕ → Bytes
@@ -29,6 +35,19 @@ rule_lines area heads bodies n m = joined (map (rule_text (names_in area n)) (ru
 -- the whole text
 abbrev pub text_in : Bytes → List ℕ → List ℕ → ℕ → ℕ → Bytes
 text_in area heads bodies n m = written (names_in area n) (rules_in (rule_tables heads bodies) m)
+
+-- a name of a lent name area; a line, the lines and the text of lent tables
+abbrev pub name_of : Names → ℕ → Bytes
+name_of t a = name_spelt t.area t.count a
+
+abbrev pub line : Tables → ℕ → Bytes
+line t j = line_of t.names.area t.rules.tables.heads t.rules.tables.bodies t.names.count j
+
+abbrev pub lines : Tables → Bytes
+lines t = rule_lines t.names.area t.rules.tables.heads t.rules.tables.bodies t.names.count t.rules.count
+
+abbrev pub text_of : Tables → Bytes
+text_of t = text_in t.names.area t.rules.tables.heads t.rules.tables.bodies t.names.count t.rules.count
 
 -- no line is longer
 abbrev pub line_bytes : ℕ

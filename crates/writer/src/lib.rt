@@ -2,38 +2,30 @@
 #![tactic(auto)]
 
 ghost use Rattle.std.specs.Prelude.{◌≡◌};
+ghost use Rattle.limits.specs.Refusal.{number_in, count_in};
 ghost use Rattle.tables.specs.Writing.{write_call};
 ghost use Rattle.writer.specs.Short.{short_write};
 
 use limits::{Book, Refusal};
+use scan::letters::Letters;
 
 pub mod measure;
+pub mod page;
 pub mod put;
 
-// The number of a refusal, 0 for none, and the size of the text.
-#[derive(Clone, Copy)]
-pub struct Written {
-    pub number: usize,
-    pub size: usize,
-}
-
 // Whether an area is shorter than its stated size.
+#[tactic(auto, unfolding(crate::specs::Short::short_write))]
 pub fn too_short(spellings: usize, heads: usize, bodies: usize, text: usize) -> bool
     ensures { result ≡ short_write spellings heads bodies text }
 {
-    if spellings < Book::NAME_AREA {
-        return true;
-    }
-    if heads < Book::RULES {
-        return true;
-    }
-    if bodies < Book::BODY_AREA {
-        return true;
-    }
-    text < Book::TEXT_BYTES
+    spellings < Book::NAME_AREA
+        || heads < Book::RULES
+        || bodies < Book::BODY_AREA
+        || text < Book::TEXT_BYTES
 }
 
-// Writes the n names and m rules as text, zero after it, by the letters of the lent table; a refusal leaves the area as it was.
+// Writes the n names and m rules as text, zero after it, by the letters of the lent table, and returns the size of the text; a refusal
+// leaves the area as it was.
 pub fn write(
     spellings: &[u8],
     heads: &[u16],
@@ -42,34 +34,22 @@ pub fn write(
     n: usize,
     m: usize,
     text: &mut [u8],
-) -> Written
-    ensures { record { number = result.number; size = result.size; text = text.new }
+) -> Result<usize, Refusal>
+    ensures { record { number = number_in result; size = count_in (λ size. size) result; text = text.new }
         ≡ write_call table.now
         (record { spellings = spellings.now; heads = heads.now; bodies = bodies.now })
         n m text.old }
 {
     let short = too_short(spellings.len(), heads.len(), bodies.len(), text.len());
-    let cause = scan::table::cause(short, table);
-    if cause != 0 {
-        return Written {
-            number: cause,
-            size: 0,
-        };
+    let folding = Letters::judge(short, table)?;
+    let formed = tablecheck::judge(spellings, heads, bodies, &folding, n, m);
+    let tables = formed.ok_or(Refusal::IllFormed)?;
+    let size = measure::text_len(&tables);
+    let too_long = size > Book::TEXT_BYTES;
+    if too_long {
+        return Err(Refusal::LongWritten);
     }
-    if !tablecheck::well_formed(spellings, heads, bodies, table, n, m) {
-        return Written {
-            number: Refusal::ILL_FORMED,
-            size: 0,
-        };
-    }
-    let size = measure::text_len(spellings, heads, bodies, n, m);
-    if Book::TEXT_BYTES < size {
-        return Written {
-            number: Refusal::LONG_WRITTEN,
-            size: 0,
-        };
-    }
-    put::put_text(spellings, heads, bodies, n, m, text);
-    rows::clear::clear_tail8(text, size, Book::TEXT_BYTES);
-    Written { number: 0, size }
+    put::put_text(&tables, text);
+    rows::clear::clear(text, size, Book::TEXT_BYTES);
+    Ok(size)
 }

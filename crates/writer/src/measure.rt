@@ -1,66 +1,65 @@
 // How long the text of tables is, before anything is written.
 ghost use Rattle.std.specs.Prelude.{◌≡◌, ◌+◌, ◌*◌, ◌<◌, ◌≤◌, length};
-ghost use Rattle.limits.specs.Book.{names, name_bytes, name_area, rules, body_words, body_area};
-ghost use Rattle.writer.specs.Spelt.{name_spelt, rest_of, line_of, text_in, line_bytes};
+ghost use Rattle.limits.specs.Book.{names, name_bytes, rules, body_words};
+ghost use Rattle.writer.specs.Spelt.{names_past, name_of, line, text_of, line_bytes};
 
 use limits::Book;
 use scan::cursor::Cursor;
-use tablecheck::names::name_end;
+use tablecheck::order::next_name;
+use tablecheck::{NameArea, Tables};
 
-// The length of name a of the first n, 0 where a is not below n.
-pub fn name_len(spellings: &[u8], n: usize, a: usize) -> usize
-    requires { (n ≤ names) × (name_area ≤ length spellings.now) }
-    ensures len { result ≡ length (name_spelt spellings.now n a) }
-    ensures bound { result ≤ name_bytes }
+// Name a of those in use, nothing where it is none of them.
+#[tactic(auto, using(crate::proofs::Lines::spelt_yes, crate::proofs::Lines::spelt_no))]
+pub fn spelt<'a>(lent: &'a NameArea<'_>, a: usize) -> &'a [u8]
+    ensures bytes { result.now ≡ name_of lent.now a }
+    ensures bound { length result.now ≤ name_bytes }
 {
-    if a < n {
-        return name_end(spellings, a) - Book::name_at(a);
+    if a < lent.name_count() {
+        return lent.name(a);
     }
-    0
+    &[]
 }
 
-// The length of the names of the body at place `at` from number `from` on, each after a space.
-pub fn rest_len(spellings: &[u8], bodies: &[u64], n: usize, at: usize, from: usize) -> usize
-    requires { (n ≤ names) × (name_area ≤ length spellings.now) × (at + body_words ≤ length bodies.now) × (from ≤ names) }
-    ensures len { result ≡ length (rest_of spellings.now n bodies.now at from) }
+// The length of the names of a body from number `from` on, each after a space.
+#[tactic(auto, using(crate::proofs::Lengths::rest_start))]
+pub fn rest_len(lent: &NameArea<'_>, body: &[u64], from: usize) -> usize
+    requires { (length body.now ≡ body_words) × (from ≤ names) }
+    ensures len { result ≡ length (names_past lent.now.area lent.now.count body.now from) }
     ensures bound { result ≤ names * (name_bytes + 1) }
 {
     let mut len = 0;
-    let mut a = rows::walk::next(bodies, at, Book::BODY_WORDS, from);
+    let mut a = next_name(body, from);
     while a < Book::NAMES {
-        len += 1 + name_len(spellings, n, a);
-        a = rows::walk::next(bodies, at, Book::BODY_WORDS, a + 1);
+        len += 1 + spelt(lent, a).len();
+        a = next_name(body, a + 1);
     }
     len
 }
 
 // The length of rule j, its line end aside.
-pub fn rule_len(spellings: &[u8], heads: &[u16], bodies: &[u64], n: usize, j: usize) -> usize
-    requires { (n ≤ names) × (j < rules)
-        × (name_area ≤ length spellings.now) × (rules ≤ length heads.now) × (body_area ≤ length bodies.now) }
-    ensures len { result ≡ length (line_of spellings.now heads.now bodies.now n j) }
+#[tactic(auto, using(crate::proofs::Lengths::rule_bare, crate::proofs::Lengths::rule_full))]
+pub fn rule_len(tables: &Tables<'_>, j: usize) -> usize
+    requires { j < rules }
+    ensures len { result ≡ length (line tables.now j) }
     ensures bound { result ≤ line_bytes }
 {
-    let head = name_len(spellings, n, heads[j] as usize) + 1;
-    let at = Book::body_at(j);
-    let a = rows::walk::next(bodies, at, Book::BODY_WORDS, 0);
+    let head = spelt(&tables.names, tables.rules.head(j)).len() + 1;
+    let body = tables.rules.body(j);
+    let a = next_name(body, 0);
     if a < Book::NAMES {
-        return head + name_len(spellings, n, a) + rest_len(spellings, bodies, n, at, a + 1);
+        return head + spelt(&tables.names, a).len() + rest_len(&tables.names, body, a + 1);
     }
     head
 }
 
 // The length of the text.
-pub fn text_len(spellings: &[u8], heads: &[u16], bodies: &[u64], n: usize, m: usize) -> usize
-    requires { (n ≤ names) × (m ≤ rules)
-        × (name_area ≤ length spellings.now) × (rules ≤ length heads.now) × (body_area ≤ length bodies.now) }
-    ensures { result ≡ length (text_in spellings.now heads.now bodies.now n m) }
+#[tactic(auto, using(crate::proofs::Lengths::text_start))]
+pub fn text_len(tables: &Tables<'_>) -> usize
+    ensures { result ≡ length (text_of tables.now) }
 {
     let mut len = Cursor::MARK_BYTES;
-    let mut j = 0;
-    while j < m {
-        len += rule_len(spellings, heads, bodies, n, j) + 1;
-        j += 1;
+    for j in 0..tables.rules.rule_count() {
+        len += rule_len(tables, j) + 1;
     }
     len
 }

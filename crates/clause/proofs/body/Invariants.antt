@@ -2,16 +2,22 @@
 use mathlib.Core.Path.{◌≡◌}
 use Prim.Native.Nat.{◌-◌}
 use lib.ListN.{length}
+use Rattle.std.specs.Prelude.{Some, is_some, IfSome}
 use Rattle.grammar.specs.Bytes.{letters}
-use Rattle.clause.specs.Found.{lexicon_of}
+use Rattle.clause.specs.Held.{held}
 use Rattle.clause.proofs.Passing.{Passed}
 use Rattle.clause.proofs.body.Given as goal
 
-abbrev pub invariant-loop-at : goal.invariant-loop-at
-invariant-loop-at l = Passed (letters l.table) l.text
-    l.initial.here.at l.here.at l.room (lexicon_of l.n l.initial.spellings l.initial.first l.initial.prior) l.done.room
-    (lexicon_of l.done.names l.spellings l.first l.prior) l.initial.row l.row
-    × (length l.first ≡ length l.initial.first) × (length l.prior ≡ length l.initial.prior) × (length l.row ≡ length l.initial.row) × (l.here.line ≡ l.initial.here.line)
+abbrev pub invariant-loop-word : goal.invariant-loop-word
+invariant-loop-word l =
+    record {
+      passed : Passed (letters l.folding) l.text l.initial.here.at l.here.at (is_some l.initial.head) (held l.initial.lexicon) (is_some l.head)
+          (held l.lexicon) l.initial.row l.row;
+      same : l.lexicon.spellings.ghost_name ≡ l.initial.lexicon.spellings.ghost_name;
+      row_len : length l.row ≡ length l.initial.row;
+      line : l.here.line ≡ l.initial.here.line;
+      head : IfSome l.head (λ h. l.initial.head ≡ Some h);
+    }
 
-abbrev pub decreases-loop-at : goal.decreases-loop-at
-decreases-loop-at l = length l.text - l.here.at
+abbrev pub decreases-loop-word : goal.decreases-loop-word
+decreases-loop-word l = length l.text - l.here.at

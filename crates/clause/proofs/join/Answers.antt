@@ -1,76 +1,28 @@
 -- `clause::join` meets its contract. Assumes nothing.
-use mathlib.Core.Path.{refl}
-use mathlib.Core.Bool.{true}
+use mathlib.Core.Path.{sym, subst}
+use mathlib.Core.List.{[], ◌∷◌}
+use Prim.Native.Nat.{ℕ}
 use native.Mathlib.Omega.{arith}
-use borrow.Author.Tests.{not-true, not-false}
-use Rattle.clause.specs.Found.{lexicon_of}
-use Rattle.clause.proofs.Rows.{kept_same}
-use Rattle.clause.proofs.Meeting.{ready, met_known}
-use Rattle.clause.proofs.Joining.{low, onward_shut, onward_one, onward_full}
+use Rattle.std.specs.Prelude.{Option, is_some}
+use Rattle.clause.specs.Found.{names_at, Onward}
+use Rattle.clause.specs.Held.{held}
+use Rattle.clause.proofs.Joining.{joins_low, joins_one, joins_full}
 use Rattle.clause.proofs.join.Goals as goal
 
-pub returns-then-not-room : goal.returns-then-not-room
-returns-then-not-room c =
-    let x = lexicon_of c.args.n c.args.spellings.now c.args.first.now c.args.prior.now in
-    record {
-      kept = kept_same _ c.args.spellings.now;
-      joins = onward_shut c.args.room _ _ x c.args.row.now (not-true _ c.if-not-room.true-raw);
-    }
-
-pub find-known-requires : goal.find-known-requires
-find-known-requires c =
-    let x = lexicon_of c.args.n c.args.spellings.now c.args.first.now c.args.prior.now in
-    let k = c.requires.in_order (not-false _ c.if-not-room.false-raw) in
-    let r = ready _ c.requires.name_here.1.1 c.args.text.now c.args.at _ _ c.requires.name_here.0 x k in
-    record {
-      n_le_names = (r.0.0, r.0.1, r.0.2, c.requires.name_here.1);
-      indexed = r.1;
-    }
+pub returns-in_err-number-clause-joins : goal.returns-in_err-number-clause-joins
+returns-in_err-number-clause-joins c =
+    let x = held c.args.lexicon.now in
+    let y = held c.meet.new.lexicon in
+    subst (λ (o : Option ℕ). Onward (is_some c.args.head) (names_at x) (c.args.name.now ∷ []) (is_some o) y c.args.row.now c.args.row.now)
+    (sym c.from_residual-in_err-number.ensures)
+    (joins_full c.args.head _ x y c.requires.in_order _ c.in_ok-head.was c.meet.result c.meet.ensures.met c.in_err-number.was y c.args.row.now)
 
 pub insert-requires : goal.insert-requires
 insert-requires c =
-    let x = lexicon_of c.args.n c.args.spellings.now c.args.first.now c.args.prior.now in
-    let k = c.requires.in_order (not-false _ c.if-not-room.false-raw) in
-    (omega (arith, c.requires.name_here.2), omega (arith, k.few, c.if-known-n.true))
+    let l = joins_low c.args.head _ (held c.args.lexicon.now) (held c.meet.new.lexicon) c.requires.in_order _ c.in_ok-head.was c.meet.result
+    c.meet.ensures.met _ c.in_ok-number.was in omega (arith, l, c.requires.row_len)
 
-pub returns-then-known-n : goal.returns-then-known-n
-returns-then-known-n c =
-    let x = lexicon_of c.args.n c.args.spellings.now c.args.first.now c.args.prior.now in
-    let k = c.requires.in_order (not-false _ c.if-not-room.false-raw) in
-    let met = met_known _ c.requires.name_here.1.1 c.args.text.now c.args.at _ _ c.requires.name_here.0 x k _ c.find-known.ensures c.if-known-n.true in
-    record {
-      kept = met.kept;
-      joins = onward_one c.args.room _ true _ x x k met (not-false _ c.if-not-room.false-raw) refl c.args.row.now _ c.insert.ensures;
-    }
-
-pub meet-met-requires : goal.meet-met-requires
-meet-met-requires c = record {
-  name_here = (c.requires.name_here.0, c.requires.name_here.1);
-  in_order = c.requires.in_order (not-false _ c.if-not-room.false-raw);
-}
-
-pub returns-then-not-met : goal.returns-then-not-met
-returns-then-not-met c =
-    let x = lexicon_of c.args.n c.args.spellings.now c.args.first.now c.args.prior.now in
-    let k = c.requires.in_order (not-false _ c.if-not-room.false-raw) in
-    let y = lexicon_of c.args.n c.meet-met.new.spellings c.meet-met.new.first c.meet-met.new.prior in
-    record {
-      kept = c.meet-met.ensures.kept;
-      joins = onward_full c.args.room _ _ _ x _ k c.meet-met.ensures (not-true _ c.if-not-met.true) y c.args.row.now;
-    }
-
-pub insert-requires-2 : goal.insert-requires-2
-insert-requires-2 c =
-    let x = lexicon_of c.args.n c.args.spellings.now c.args.first.now c.args.prior.now in
-    let k = c.requires.in_order (not-false _ c.if-not-room.false-raw) in
-    (omega (arith, c.requires.name_here.2), omega (arith, low c.args.room _ _ _ x _ k c.meet-met.ensures (not-false _ c.if-not-met.false)))
-
-pub returns : goal.returns
-returns c =
-    let x = lexicon_of c.args.n c.args.spellings.now c.args.first.now c.args.prior.now in
-    let k = c.requires.in_order (not-false _ c.if-not-room.false-raw) in
-    let y = lexicon_of c.meet-met.result.names c.meet-met.new.spellings c.meet-met.new.first c.meet-met.new.prior in record {
-      kept = c.meet-met.ensures.kept;
-      joins = onward_one c.args.room _ _ _ x y k c.meet-met.ensures (not-false _ c.if-not-room.false-raw) (not-false _ c.if-not-met.false) c.args.row.now _
-          c.insert-2.ensures;
-    }
+pub returns-clause-joins : goal.returns-clause-joins
+returns-clause-joins c =
+    joins_one c.args.head _ (held c.args.lexicon.now) (held c.meet.new.lexicon) c.requires.in_order _ c.in_ok-head.was c.meet.result c.meet.ensures.met
+    _ c.in_ok-number.was c.args.row.now c.insert.new.words c.insert.ensures

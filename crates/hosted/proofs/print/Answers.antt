@@ -1,36 +1,28 @@
--- `hosted::print` meets its contract: the listing with its end, or the line of the refusal and zeros. Assumes nothing.
-use mathlib.Core.Path.{◌≡◌}
+use mathlib.Core.Path.{◌≡◌, refl}
+use native.Mathlib.Omega.{arith}
 use lib.ListN.{length}
+use borrow.Author.Rules.{rules}
 use Rattle.limits.specs.Book.{listing_bytes}
 use Rattle.grammar.specs.Letters.{our_table}
+use Rattle.grammar.specs.Bytes.{our_letters}
 use Rattle.grammar.proofs.Letters.{our_table_lem}
-use Rattle.hosting.proofs.Printing.{refusal_room, refusal_fits, refusal_area, print_refused, print_ours}
-use Rattle.hosted.proofs.Ends.{print_end}
-use borrow.Author.Rules.{rules}
+use Rattle.hosting.proofs.Printing.{print_within, print_ours}
+use Rattle.hosted.proofs.Ends.{print_end, line_room, print_line}
 use Rattle.hosted.proofs.print.Goals as goal
 
-pub returns-then-listed : goal.returns-then-listed
-returns-then-listed c =
+pub returns-in-Ok : goal.returns-in-Ok
+returns-in-Ok c =
     let exact : length c.args.out.now ≡ listing_bytes = search rules in
-    print_ours _ (print_end our_table our_table_lem _ _ exact c.list-r.ensures.listed c.if-listed.true c.list-r.ensures.end)
+    let printed = print_ours _ (print_end our_table our_table_lem _ _ exact c.in-Ok.ensures.listed refl c.in-Ok.ensures.end) in
+    record { printed = printed; within = omega (arith, print_within our_letters _ _ _ printed, c.list.auto.listing) }
 
-pub put_refusal-end-requires : goal.put_refusal-end-requires
-put_refusal-end-requires c =
+pub put_refusal-requires : goal.put_refusal-requires
+put_refusal-requires c =
     let exact : length c.args.out.now ≡ listing_bytes = search rules in
-    refusal_room our_table our_table_lem _ _ exact _ c.list-r.ensures.listed c.if-listed.false
+    line_room _ _ exact c.in-Err.refused.cause c.in-Err.ensures.listed c.number.ensures c.new-line.result c.new-line.ensures.end c.new-line.ensures.area
 
-pub clear_tail8-requires : goal.clear_tail8-requires
-clear_tail8-requires c =
-    let exact : length c.args.out.now ≡ listing_bytes = search rules in (
-      refusal_fits our_table our_table_lem _ _ exact _ c.list-r.ensures.listed c.if-listed.false
-          _ _ c.put_refusal-end.ensures.text c.put_refusal-end.ensures.next,
-      refusal_area our_table our_table_lem _ _ exact _ c.list-r.ensures.listed c.if-listed.false
-          _ _ c.put_refusal-end.ensures.text c.put_refusal-end.ensures.next,
-    )
-
-pub returns : goal.returns
-returns c =
+pub returns-in-Err-clause-printed : goal.returns-in-Err-clause-printed
+returns-in-Err-clause-printed c =
     let exact : length c.args.out.now ≡ listing_bytes = search rules in
-    print_ours _
-    (print_refused our_table our_table_lem _ _ exact _ c.list-r.ensures.listed c.if-listed.false _ _ c.put_refusal-end.ensures.text c.put_refusal-end.ensures.next
-    _ c.clear_tail8.ensures)
+    print_line _ _ exact c.in-Err.refused.cause c.in-Err.ensures.listed c.number.ensures c.new-line.result c.new-line.ensures.end c.new-line.ensures.area
+    c.put_refusal.ensures c.end-end.ensures (search rules) _ c.clear.ensures

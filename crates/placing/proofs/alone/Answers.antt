@@ -1,22 +1,11 @@
-use native.Mathlib.Omega.{arith}
-use mathlib.Core.Path.{sym}
-use Rattle.limits.specs.Book.{row_words}
-use Rattle.sets.specs.Set.{only}
-use Rattle.systems.proofs.Packed.{packed_none, rows_all_lem}
-use Rattle.placing.proofs.Overwriting.{alone_next}
+-- `placing::alone` meets its contract. Assumes nothing.
+use mathlib.Core.Path.{◌≡◌}
+use lib.ListN.{length, replicate}
+use Rattle.placing.proofs.Overwriting.{alone_row}
 use borrow.Author.Rules.{rules}
 use Rattle.placing.proofs.alone.Goals as goal
 
-pub loop-i-init : goal.loop-i-init
-loop-i-init c = (search rules, search rules, sym (packed_none row_words only _))
-
-pub loop-i-preserved : goal.loop-i-preserved
-loop-i-preserved c = (
-  search rules,
-  search rules,
-  alone_next _ _ _ _ _ _ (omega arith) (omega arith) c.row_at-at.ensures c.loop-i.invariant.2
-      c.clear_tail64.ensures c.insert.ensures,
-)
-
 pub returns : goal.returns
-returns c = rows_all_lem row_words only _ _ _ c.loop-i.invariant.2 _ c.loop-i.invariant.0 c.loop-i-test.false
+returns c =
+    let zeros : c.fill.new.self ≡ replicate (length c.args.words.now) 0 = search rules in
+    alone_row _ _ _ _ zeros c.insert.ensures

@@ -1,49 +1,44 @@
 use native.Mathlib.Omega.{arith}
-use Rattle.plain.proofs.Turns.{first_may, first_going, next_may, next_less, next_going, last_count, last_model, last_held}
-use Rattle.plain.proofs.Calls.{long, in_order, call_short, call_ill, call_done}
+use mathlib.Core.Path.{◌≡◌, ap}
+use mathlib.Core.Bool.{not}
+use Rattle.std.proofs.Common.{Err}
+use Rattle.plain.proofs.Turns.{first_going, next_less, next_going, last_count, last_model, last_held}
+use Rattle.plain.proofs.Calls.{call_short, call_refused, call_done}
 use borrow.Author.Rules.{rules}
 use Rattle.plain.proofs.run.Goals as goal
 
-pub returns-then-too_short : goal.returns-then-too_short
-returns-then-too_short c = call_short _ _ _ _ c.too_short.ensures c.if-too_short.true
+pub returns-then-short : goal.returns-then-short
+returns-then-short c = call_short _ _ _ c.if-short.true
 
-pub formed-requires : goal.formed-requires
-formed-requires c = (long _ _ _ c.too_short.ensures c.if-too_short.false).0
+pub returns-in_err-rules : goal.returns-in_err-rules
+returns-in_err-rules c =
+    let r : c.from_residual.result ≡ Err c.in_err-rules.field-0.0 = search rules in
+    rw r (call_refused _ _ _ c.if-short.false _ c.in_err-rules.ensures.number)
 
-pub returns-then-not-formed : goal.returns-then-not-formed
-returns-then-not-formed c = call_ill _ _ _ _ c.too_short.ensures c.if-too_short.false _ c.formed.ensures c.if-not-formed.true-raw
+pub rounds-init : goal.rounds-init
+rounds-init c =
+    first_going _ _ c.args.model.now _ (c.in_order.ensures.long, c.if-short.false) c.in_order.ensures.formed c.clear.ensures _ c.step.ensures
 
-pub clear_tail64-requires : goal.clear_tail64-requires
-clear_tail64-requires c =
-    let l = long _ _ _ c.too_short.ensures c.if-too_short.false in
-    (search rules, l.1)
+pub rounds-smaller : goal.rounds-smaller
+rounds-smaller c =
+    omega (arith, next_less _ _ _ _ c.rounds.model c.rounds.next _ c.rounds.invariant _ c.equal.ensures (ap not c.rounds-test.true))
 
-pub step-requires : goal.step-requires
-step-requires c =
-    first_may _ _ c.args.model.now _ (long _ _ _ c.too_short.ensures c.if-too_short.false)
-    (in_order _ _ _ c.formed.ensures c.if-not-formed.false-raw) c.clear_tail64.ensures
-
-pub loop-next-init : goal.loop-next-init
-loop-next-init c =
-    first_going _ _ c.args.model.now _ (long _ _ _ c.too_short.ensures c.if-too_short.false)
-    (in_order _ _ _ c.formed.ensures c.if-not-formed.false-raw) c.clear_tail64.ensures _ c.step.ensures
-
-pub step-requires-in-loop-next : goal.step-requires-in-loop-next
-step-requires-in-loop-next c = next_may _ _ _ _ c.loop-next.model c.loop-next.next _ c.loop-next.invariant _ _ c.copy.ensures c.clear_tail64-in-loop-next.ensures
-
-pub loop-next-smaller : goal.loop-next-smaller
-loop-next-smaller c = omega (arith, next_less _ _ _ _ c.loop-next.model c.loop-next.next _ c.loop-next.invariant _ c.equal.ensures c.loop-next-test.true-raw)
-
-pub loop-next-preserved : goal.loop-next-preserved
-loop-next-preserved c =
-    next_going _ _ _ _ c.loop-next.model c.loop-next.next _ c.loop-next.invariant _ c.equal.ensures _ _ _ c.loop-next-test.true-raw c.copy.ensures
-    c.clear_tail64-in-loop-next.ensures c.step-in-loop-next.ensures
+pub rounds-preserved : goal.rounds-preserved
+rounds-preserved c =
+    let first : c.copy_from_slice.new.self ≡ c.rounds.next = search rules in
+    next_going _ _ _ _ c.rounds.model c.rounds.next _ c.rounds.invariant _ c.equal.ensures _ _ (ap not c.rounds-test.true) first
+    c.step-in-rounds.ensures
 
 pub returns : goal.returns
 returns c =
+    let inv = c.rounds.invariant in
     let old = c.args.model.now in
-    let still = c.equal.ensures in
-    call_done _ _ old _ c.too_short.ensures c.if-too_short.false c.loop-next.invariant.formed _ _ _
-    (last_held _ _ _ _ _ _ _ c.loop-next.invariant _ still c.loop-next-test.false-raw _ c.count-held.ensures)
-    (last_count _ _ _ _ _ _ _ c.loop-next.invariant _ still c.loop-next-test.false-raw)
-    (last_model _ _ _ _ _ _ _ c.loop-next.invariant _ still c.loop-next-test.false-raw old c.clear_tail64.ensures)
+    let read = c.equal.ensures in
+    let end = ap not c.rounds-test.false in
+    let done =
+    call_done _ _ old (c.in_order.ensures.long, c.if-short.false) c.in_order.ensures.formed _ _ _
+    (last_held _ _ _ _ _ _ _ inv _ read end _ c.count-held.ensures)
+    (last_count _ _ _ _ _ _ _ inv _ read end)
+    (last_model _ _ _ _ _ _ _ inv _ read end old c.clear.ensures)
+    in
+    rw c.in_ok-rules.ensures.rules at done

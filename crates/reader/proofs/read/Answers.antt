@@ -1,18 +1,20 @@
 -- `reader::read` meets its contract. Assumes nothing.
-use Rattle.reader.proofs.Calling.{call_ready, call_read}
+use mathlib.Core.Path.{refl}
+use Rattle.reader.proofs.Calling.{call_refused, call_ready, call_read}
 use Rattle.reader.proofs.read.Goals as goal
 
-pub read_formed-requires : goal.read_formed-requires
-read_formed-requires c =
+pub returns-in_err-folding : goal.returns-in_err-folding
+returns-in_err-folding c =
+    call_refused _ c.args.text.now _ _ _ _ c.too_short-short.ensures _ c.in_err-folding.ensures.number _ _ c.from_residual.ensures refl
+
+pub read_formed-requires-clause-name_area_in_bounds : goal.read_formed-requires-clause-name_area_in_bounds
+read_formed-requires-clause-name_area_in_bounds c =
     let ready =
     call_ready c.args.table.now c.args.text.now c.args.spellings.now c.args.heads.now c.args.bodies.now _ c.too_short-short.ensures _
-    c.cause-cause.ensures c.if-cause-ne0.false in
-    record {
-      name_area_in_bounds = (ready.0, ready.1, ready.2);
-      text_len_bound = (c.if-text-gt-TEXT_BYTES.false, ready.3);
-    }
+    c.in_ok-folding.ensures.number refl in
+    (ready.0, ready.1, ready.2)
 
 pub returns : goal.returns
 returns c =
     call_read c.args.table.now c.args.text.now c.args.spellings.now c.args.heads.now c.args.bodies.now _ c.too_short-short.ensures _
-    c.cause-cause.ensures c.if-cause-ne0.false c.if-text-gt-TEXT_BYTES.false _ c.read_formed.ensures
+    c.in_ok-folding.ensures.number refl c.if-text-gt-TEXT_BYTES.false _ c.in_ok-folding.ensures.letters _ c.read_formed.ensures

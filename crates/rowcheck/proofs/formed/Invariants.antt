@@ -1,5 +1,4 @@
 -- `rowcheck::formed` meets its contract. The loop's invariant: every row passed keeps the count. Assumes nothing.
-use Prim.Native.Nat.{◌-◌, ◌≤◌}
 use mathlib.Core.Path.{◌≡◌}
 use mathlib.Core.Bool.{true}
 use Rattle.limits.specs.Book.{row_words}
@@ -8,7 +7,4 @@ use Rattle.rowcheck.proofs.Counted.{kept}
 use Rattle.rowcheck.proofs.formed.Given as goal
 
 abbrev pub invariant-loop-i : goal.invariant-loop-i
-invariant-loop-i l = (l.i ≤ l.count) × (every l.i (kept row_words l.count l.area) ≡ true)
-
-abbrev pub decreases-loop-i : goal.decreases-loop-i
-decreases-loop-i l = l.count - l.i
+invariant-loop-i l = every l.i (kept row_words l.count l.area) ≡ true

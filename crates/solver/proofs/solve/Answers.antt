@@ -1,17 +1,12 @@
--- `solver::solve` meets its contract: areas and table judged first, then its work in areas of which nothing is known. Assumes nothing.
 use mathlib.Core.Path.{refl}
-use Rattle.sets.proofs.Logic.{clash}
-use Rattle.solving.specs.Solve.{SolveAreas}
-use Rattle.solver.proofs.Calls.{lent, call_first, passes_first}
+use borrow.Author.Rules.{rules}
+use Rattle.limits.specs.Refusal.{number_of}
+use Rattle.solver.proofs.Calls.{lent, handed, call_first}
 use Rattle.solver.proofs.solve.Goals as goal
 
-pub returns-then-first-ne0 : goal.returns-then-first-ne0
-returns-then-first-ne0 c = call_first _ _ _ _ c.too_short-short.ensures c.cause-first.ensures c.refused-unsolved.ensures c.if-first-ne0.true
-
-pub solve_in-solved-requires : goal.solve_in-solved-requires
-solve_in-solved-requires c =
-    let old : SolveAreas =
-    lent c.args.spellings.now c.args.heads.now c.args.bodies.now c.args.all.now c.args.any.now c.args.spare.now c.args.model.now c.args.listing.now in record {
-      fold_table = passes_first c.args.table.now c.args.text.now c.args.folds old c.too_short-short.ensures c.cause-first.ensures c.if-first-ne0.false;
-      clear = λ t. clash t refl;
-    }
+pub returns-in_err-folding : goal.returns-in_err-folding
+returns-in_err-folding c =
+    let a = c.args in
+    call_first a.table.now a.text.now a.folds
+    (lent a.spellings.now a.heads.now a.bodies.now a.all.now a.any.now a.spare.now a.model.now a.listing.now)
+    c.too_short-short.ensures {q = number_of c.in_err-folding.field-0.0} (search rules) (handed _ c.from_residual.ensures) refl

@@ -1,24 +1,24 @@
 -- `standard::standardise` meets its contract. One law for each refusal. Assumes nothing.
-use mathlib.Core.Path.{refl, sym, ◌∙◌}
-use borrow.Author.Tests.{not-false}
-use Rattle.sets.proofs.Logic.{clash}
-use Rattle.standard.proofs.Calls.{long_enough, call_short, call_ill}
+use mathlib.Core.Path.{◌≡◌, sym, ◌∙◌}
+use borrow.Author.Rules.{rules}
+use Rattle.std.proofs.Common.{Err}
+use Rattle.systems.specs.Rows.{RowAreas}
+use Rattle.systems.proofs.Running.{long_at}
+use Rattle.standard.proofs.Calls.{short_is, call_short, call_refused}
 use Rattle.standard.proofs.standardise.Goals as goal
 
 pub returns-then-too_short : goal.returns-then-too_short
-returns-then-too_short c = call_short _ _ _ _ c.too_short.ensures c.if-too_short.true
+returns-then-too_short c =
+    let o : RowAreas = record { all = c.args.all.now; any = c.args.any.now; model = c.args.model.now } in
+    call_short _ _ o _ c.too_short.ensures c.if-too_short.true
 
-pub formed-requires : goal.formed-requires
-formed-requires c = (long_enough _ _ _ _ _ _ c.too_short.ensures c.if-too_short.false).0
+pub returns-in_err-rules : goal.returns-in_err-rules
+returns-in_err-rules c =
+    let o : RowAreas = record { all = c.args.all.now; any = c.args.any.now; model = c.args.model.now } in
+    let r : c.from_residual.result ≡ Err c.in_err-rules.field-0.0 = search rules in
+    rw r (call_refused _ _ o _ c.too_short.ensures c.if-too_short.false _ c.in_err-rules.ensures.number)
 
-pub returns-then-not-formed : goal.returns-then-not-formed
-returns-then-not-formed c = call_ill _ _ _ _ c.too_short.ensures c.if-too_short.false _ c.formed.ensures c.if-not-formed.true-raw
-
-pub standardise_formed-requires : goal.standardise_formed-requires
-standardise_formed-requires c = record {
-  standard_long = (long_enough _ _ _ _ _ _ c.too_short.ensures c.if-too_short.false, sym c.formed.ensures ∙ not-false _ c.if-not-formed.false-raw);
-  clear = λ t. clash t refl;
-}
-
-pub returns : goal.returns
-returns c = c.standardise_formed.ensures
+pub standardise_formed-requires-clause-long : goal.standardise_formed-requires-clause-long
+standardise_formed-requires-clause-long c =
+    let o : RowAreas = record { all = c.args.all.now; any = c.args.any.now; model = c.args.model.now } in
+    long_at o (sym (short_is o _ c.too_short.ensures) ∙ c.if-too_short.false)

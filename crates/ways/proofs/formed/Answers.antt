@@ -1,30 +1,20 @@
-use borrow.Author.Tests.{not-true, not-false}
-use mathlib.Core.Path.{sym, ◌∙◌}
-use Rattle.limits.specs.Book.{}
-use Rattle.sets.proofs.Every.{every_none, every_on}
-use Rattle.ways.proofs.Entries.{too_many_names, too_many_rules, entry_off, entries_end}
+-- `ways::formed` meets its contract: within the limits, `all` tests every entry. Assumes nothing.
 use borrow.Author.Rules.{rules}
+use borrow.Author.Tests.{tests}
+use mathlib.Core.Path.{refl, ◌∙◌}
+use mathlib.Core.Bool.{true, false}
+use mathlib.Core.Path.{◌≡◌}
+use Rattle.limits.specs.Book as Book
+use Rattle.systems.specs.Standardise.{formed_entry}
+use Rattle.std.proofs.lemmas.Iterator.{cases_from_all, YieldsList-from_range}
+use Rattle.ways.proofs.Entries.{entries}
+use Rattle.ways.proofs.Ranges.{every_of_range}
 use Rattle.ways.proofs.formed.Goals as goal
 
-pub returns-then-n-gt-NAMES : goal.returns-then-n-gt-NAMES
-returns-then-n-gt-NAMES c = too_many_names _ _ c.if-n-gt-NAMES.true
-
-pub returns-then-m-gt-RULES : goal.returns-then-m-gt-RULES
-returns-then-m-gt-RULES c = too_many_rules _ _ c.if-m-gt-RULES.true
-
-pub loop-j-init : goal.loop-j-init
-loop-j-init c = (search rules, every_none _)
-
-pub returns-then-not-entry : goal.returns-then-not-entry
-returns-then-not-entry c =
-    entry_off _ _ _ c.if-n-gt-NAMES.false c.if-m-gt-RULES.false
-    c.loop-j-test.true (sym c.entry.ensures ∙ not-true c.entry.result c.if-not-entry.true-raw)
-
-pub loop-j-preserved : goal.loop-j-preserved
-loop-j-preserved c = (
-  search rules,
-  every_on _ _ c.loop-j.invariant.1 (sym c.entry.ensures ∙ not-false c.entry.result c.if-not-entry.false-raw),
-)
-
 pub returns : goal.returns
-returns c = entries_end _ _ _ c.if-n-gt-NAMES.false c.if-m-gt-RULES.false c.loop-j.invariant.0 c.loop-j-test.false c.loop-j.invariant.1
+returns c =
+    let entry = formed_entry (record { heads = c.args.heads.now; bodies = c.args.bodies.now }) (record { names = c.args.n; rules = c.args.m }) in
+    every_of_range Book.rules entry _
+    (cases_from_all _ _ _ (λ x. entry x ≡ true) (λ x. entry x ≡ false) c.all.ensures.ran (YieldsList-from_range 0 Book.rules Book.rules refl refl)
+    (λ x q k. search (rules, tests)) (λ x q k. search (rules, tests)))
+    ∙ entries _ _ c.if-many_names.false c.if-many_rules.false

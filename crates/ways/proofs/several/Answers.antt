@@ -1,36 +1,22 @@
+use mathlib.Core.Path.{◌∙◌}
+use mathlib.Core.List.{List}
+use Prim.Native.Nat.{ℕ, ◌<◌}
 use native.Mathlib.Omega.{arith}
-use mathlib.Core.Path.{sym, ◌∙◌}
+use Rattle.std.proofs.lemmas.List.{get_or-take, length-take-le}
 use Rattle.limits.specs.Book.{body_words}
-use Rattle.ways.proofs.Names.{length_names, met_none, several_none, once_more, twice_more, several_end}
-use borrow.Author.Rules.{rules}
+use Rattle.ways.proofs.Names.{met_none, several_none, once_more, twice_more}
 use Rattle.ways.proofs.several.Goals as goal
 
-pub loop-j-init : goal.loop-j-init
-loop-j-init c = (search rules, met_none _, several_none _)
+pub loop-head-init : goal.loop-head-init
+loop-head-init c = (met_none _, several_none _)
 
-pub slice_bounds-note-end : goal.slice_bounds-note-end
-slice_bounds-note-end c = sym (length_names _ _ c.loop-j.invariant.1)
-
-pub slice_bounds-note-end-in-loop-j : goal.slice_bounds-note-end-in-loop-j
-slice_bounds-note-end-in-loop-j c = sym (length_names _ _ c.loop-j.invariant.2)
-
-pub overflow_cast-heads : goal.overflow_cast-heads
-overflow_cast-heads c = omega (arith, c.type_inv.heads c.loop-j.j)
-
-pub note-requires : goal.note-requires
-note-requires c = (
-  omega (arith, length_names _ _ c.loop-j.invariant.1),
-  omega (arith, length_names _ _ c.loop-j.invariant.2),
-  c.requires.2 _ c.loop-j-test.true,
-)
-
-pub loop-j-preserved : goal.loop-j-preserved
-loop-j-preserved c =
-    let head = c.requires.2 _ c.loop-j-test.true in (
-      search rules,
-      c.note.ensures.once ∙ once_more _ _ body_words _ _ c.loop-j.invariant.1 c.loop-j.invariant.2 head,
-      c.note.ensures.twice ∙ twice_more _ _ body_words _ _ c.loop-j.invariant.1 c.loop-j.invariant.2 head,
+pub loop-head-preserved : goal.loop-head-preserved
+loop-head-preserved c =
+    let heads : List ℕ = c.args.heads.now in
+    let l : c.loop-head.head-index < c.args.m = omega (arith, length-take-le c.args.m heads) in
+    let small = c.requires.2 _ l in
+    let same = get_or-take c.args.m heads c.loop-head.head-index 0 l in
+    let inv = c.loop-head.invariant in (
+      (rw same at c.note.ensures.once) ∙ once_more _ _ body_words _ _ inv.0 inv.1 small,
+      (rw same at c.note.ensures.twice) ∙ twice_more _ _ body_words _ _ inv.0 inv.1 small,
     )
-
-pub returns : goal.returns
-returns c = several_end _ _ _ _ c.loop-j.invariant.0 c.loop-j-test.false c.loop-j.invariant.2

@@ -1,49 +1,51 @@
 -- `writer::write` meets its contract. One law for each outcome. Assumes nothing.
+use mathlib.Core.Path.{◌≡◌}
 use native.Mathlib.Omega.{arith}
-use Rattle.writer.proofs.Calls.{ready, limits, text_fits, call_first, call_bad, call_long, call_done}
-use borrow.Author.Rules.{rules}
+use Rattle.std.proofs.Common.{rules}
+use Rattle.limits.specs.Refusal.{number_of}
+use Rattle.grammar.specs.Letters.{letters_cause}
+use Rattle.writer.proofs.Calls.{areas_long, text_long, call_first, call_bad, call_long, call_done, text_fits}
 use Rattle.writer.proofs.write.Goals as goal
 
-pub returns-then-cause-ne0 : goal.returns-then-cause-ne0
-returns-then-cause-ne0 c = call_first _ _ _ _ _ _ _ c.too_short-short.ensures c.cause-cause.ensures c.if-cause-ne0.true
+pub returns-in_err-folding : goal.returns-in_err-folding
+returns-in_err-folding c =
+    let first : number_of c.in_err-folding.field-0.0 ≡ letters_cause c.too_short-short.result c.args.table.now = search rules in
+    call_first _ _ _ _ _ _ c.too_short-short.ensures _ first _ c.from_residual.ensures
 
-pub well_formed-requires : goal.well_formed-requires
-well_formed-requires c =
-    let l = ready _ _ _ _ _ _ _ c.too_short-short.ensures c.cause-cause.ensures c.if-cause-ne0.false in
-    (l.0, l.1, l.2, l.4)
+pub judge-formed-requires : goal.judge-formed-requires
+judge-formed-requires c =
+    let none : letters_cause c.too_short-short.result c.args.table.now ≡ 0 = search rules in
+    areas_long _ _ _ _ _ _ c.too_short-short.ensures none
 
-pub returns-then-not-well_formed : goal.returns-then-not-well_formed
-returns-then-not-well_formed c =
-    call_bad _ _ _ _ _ _ _ c.too_short-short.ensures c.cause-cause.ensures c.if-cause-ne0.false _
-    c.well_formed-2.ensures c.if-not-well_formed.true-raw
+pub returns-in_err-tables : goal.returns-in_err-tables
+returns-in_err-tables c =
+    let none : letters_cause c.too_short-short.result c.args.table.now ≡ 0 = search rules in
+    let lent : c.in_ok-folding.folding ≡ c.args.table.now = search rules in
+    call_bad _ _ _ _ _ _ c.too_short-short.ensures none _ lent _ c.judge-formed.ensures
+    c.in_err-tables.ensures.ok_part _ c.in_err-tables.ensures.value _ c.from_residual-in_err-tables.ensures
 
-pub text_len-size-requires : goal.text_len-size-requires
-text_len-size-requires c =
-    let l = ready _ _ _ _ _ _ _ c.too_short-short.ensures c.cause-cause.ensures c.if-cause-ne0.false in
-    let f = limits _ _ _ _ _ c.well_formed-2.ensures c.if-not-well_formed.false-raw in
-    (f.0, f.1, l.0, l.1, l.2)
-
-pub returns-then-size-gt-TEXT_BYTES : goal.returns-then-size-gt-TEXT_BYTES
-returns-then-size-gt-TEXT_BYTES c =
-    call_long _ _ _ _ _ _ _ c.too_short-short.ensures c.cause-cause.ensures c.if-cause-ne0.false _
-    c.well_formed-2.ensures c.if-not-well_formed.false-raw _ c.text_len-size.ensures c.if-size-gt-TEXT_BYTES.true
+pub returns-then-too_long : goal.returns-then-too_long
+returns-then-too_long c =
+    let none : letters_cause c.too_short-short.result c.args.table.now ≡ 0 = search rules in
+    let lent : c.in_ok-folding.folding ≡ c.args.table.now = search rules in
+    call_long _ _ _ _ _ _ c.too_short-short.ensures none _ lent _ c.judge-formed.ensures
+    _ c.in_ok-tables.ensures.ok_part _ c.text_len-size.ensures c.if-too_long.true
 
 pub put_text-requires : goal.put_text-requires
 put_text-requires c =
-    let l = ready _ _ _ _ _ _ _ c.too_short-short.ensures c.cause-cause.ensures c.if-cause-ne0.false in
-    let f = limits _ _ _ _ _ c.well_formed-2.ensures c.if-not-well_formed.false-raw in
-    record {
-      n_le_names = (f.0, f.1, l.0, l.1, l.2);
-      room = omega (arith, l.3, c.text_len-size.ensures);
-    }
+    let none : letters_cause c.too_short-short.result c.args.table.now ≡ 0 = search rules in
+    let l = text_long _ _ _ _ _ _ c.too_short-short.ensures none in
+    omega (arith, c.text_len-size.ensures)
 
-pub clear_tail8-requires : goal.clear_tail8-requires
-clear_tail8-requires c =
-    let l = ready _ _ _ _ _ _ _ c.too_short-short.ensures c.cause-cause.ensures c.if-cause-ne0.false in
-    (search rules, text_fits _ _ _ _ c.text_len-size.ensures c.if-size-gt-TEXT_BYTES.false l.3 c.put_text.ensures)
+pub clear-requires : goal.clear-requires
+clear-requires c =
+    let none : letters_cause c.too_short-short.result c.args.table.now ≡ 0 = search rules in
+    let l = text_long _ _ _ _ _ _ c.too_short-short.ensures none in
+    (search rules, text_fits _ _ _ _ c.text_len-size.ensures c.if-too_long.false l c.put_text.ensures)
 
 pub returns : goal.returns
 returns c =
-    call_done _ _ _ _ _ _ _ c.too_short-short.ensures c.cause-cause.ensures c.if-cause-ne0.false _
-    c.well_formed-2.ensures c.if-not-well_formed.false-raw _ c.text_len-size.ensures _ _ c.if-size-gt-TEXT_BYTES.false c.put_text.ensures
-    c.clear_tail8.ensures
+    let none : letters_cause c.too_short-short.result c.args.table.now ≡ 0 = search rules in
+    let lent : c.in_ok-folding.folding ≡ c.args.table.now = search rules in
+    call_done _ _ _ _ _ _ c.too_short-short.ensures none _ lent _ c.judge-formed.ensures
+    _ c.in_ok-tables.ensures.ok_part _ c.text_len-size.ensures _ _ c.if-too_long.false c.put_text.ensures c.clear.ensures

@@ -1,29 +1,14 @@
-use mathlib.Core.Path.{refl, ◌∙◌}
+-- `tablecheck::names::own_bytes` meets its contract. Assumes nothing.
+use Rattle.std.proofs.Common.{rules, tests, sym, ◌∙◌}
+use Rattle.std.proofs.lemmas.Iterator.{YieldsList-from_slice}
+use Rattle.std.proofs.lemmas.Iterator.Search.{all_from_yields_List}
 use Rattle.grammar.specs.Bytes.{letters}
 use Rattle.tables.specs.Writing.{own}
-use Rattle.tablecheck.proofs.Places.{all_on, all_off, all_end}
-use Rattle.tablecheck.proofs.Spelling.{own_zero, own_other, own_yes}
+use Rattle.tablecheck.proofs.Words.{all_of_is}
 use Rattle.tablecheck.proofs.names.own_bytes.Goals as goal
 
-pub loop-i-init : goal.loop-i-init
-loop-i-init c = refl
-
-pub returns-then-b-eq0 : goal.returns-then-b-eq0
-returns-then-b-eq0 c =
-    let fold = letters c.args.table.now in
-    all_off (own fold) _ _ _ c.loop-i-test.true c.requires.0 (own_zero fold _ c.if-b-eq0.true) ∙ c.loop-i.invariant
-
-pub returns-then-fold-b : goal.returns-then-fold-b
-returns-then-fold-b c =
-    let fold = letters c.args.table.now in
-    all_off (own fold) _ _ _ c.loop-i-test.true c.requires.0
-    (own_other fold _ _ c.fold.ensures c.if-fold-b.true) ∙ c.loop-i.invariant
-
-pub loop-i-preserved : goal.loop-i-preserved
-loop-i-preserved c =
-    let fold = letters c.args.table.now in
-    all_on (own fold) _ _ _ c.loop-i-test.true c.requires.0
-    (own_yes fold _ _ c.if-b-eq0.false c.fold.ensures c.if-fold-b.false) ∙ c.loop-i.invariant
-
 pub returns : goal.returns
-returns c = all_end (own (letters c.args.table.now)) _ _ _ c.loop-i-test.false ∙ c.loop-i.invariant
+returns c =
+    all_from_yields_List (own (letters c.args.folding.now)) _ _ _ c.all.ensures.ran (YieldsList-from_slice c.args.name.now cc)
+    (λ x b q k. search (rules, tests))
+    ∙ sym (all_of_is _ _)

@@ -3,12 +3,17 @@ use mathlib.Core.Path.{◌≡◌}
 use Prim.Native.Nat.{◌+◌, ◌-◌, ◌*◌, ◌≤◌}
 use lib.ListN.{length}
 use Rattle.limits.specs.Book.{names, name_bytes}
-use Rattle.writer.specs.Spelt.{rest_of}
+use Rattle.writer.specs.Spelt.{names_past}
 use Rattle.writer.proofs.Lines.{after}
 use Rattle.writer.proofs.measure.rest_len.Given as goal
 
 abbrev pub invariant-loop-a : goal.invariant-loop-a
-invariant-loop-a l = (l.a ≤ names) × (l.len ≤ l.a * (name_bytes + 1)) × (l.len + length (after l.spellings l.n l.bodies l.at l.a) ≡ length (rest_of l.spellings l.n l.bodies l.at l.from))
+invariant-loop-a l = record {
+  low : l.a ≤ names;
+  small : l.len ≤ l.a * (name_bytes + 1);
+  whole : l.len + length (after l.lent.area l.lent.count l.body l.a)
+      ≡ length (names_past l.lent.area l.lent.count l.body l.from);
+}
 
 abbrev pub decreases-loop-a : goal.decreases-loop-a
 decreases-loop-a l = names - l.a

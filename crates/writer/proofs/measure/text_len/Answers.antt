@@ -1,20 +1,16 @@
-use Rattle.tables.specs.Areas.{rule_tables, names_in}
-use Rattle.writer.proofs.Lengths.{text_start, text_on, text_end}
-use borrow.Author.Rules.{rules}
+use Rattle.std.proofs.Common.{arith}
+use Rattle.tables.specs.Areas.{names_in}
+use Rattle.writer.proofs.Lengths.{text_on, text_end}
 use Rattle.writer.proofs.measure.text_len.Goals as goal
 
-pub loop-j-init : goal.loop-j-init
-loop-j-init c = (search rules, search rules, text_start _ _ _)
-
 pub loop-j-preserved : goal.loop-j-preserved
-loop-j-preserved c = (
-  search rules,
-  search rules,
-  text_on (names_in c.args.spellings.now c.args.n) (rule_tables c.args.heads.now c.args.bodies.now) c.args.m _ _ _ _
-      c.loop-j.invariant.2 c.loop-j-test.true c.rule_len.ensures.len,
-)
+loop-j-preserved c = record {
+  small = omega (arith, c.rule_len.ensures.bound);
+  whole = text_on (names_in c.args.tables.now.names.area c.args.tables.now.names.count) c.args.tables.now.rules.tables
+      c.args.tables.now.rules.count _ _ _ _ c.loop-j.invariant.whole (omega arith) c.rule_len.ensures.len;
+}
 
 pub returns : goal.returns
 returns c =
-    text_end (names_in c.args.spellings.now c.args.n) (rule_tables c.args.heads.now c.args.bodies.now) c.args.m _ _ _ c.loop-j.invariant.2
-    c.loop-j-test.false
+    text_end (names_in c.args.tables.now.names.area c.args.tables.now.names.count) c.args.tables.now.rules.tables c.args.tables.now.rules.count _ _ _
+    c.loop-j.invariant.whole (omega arith)

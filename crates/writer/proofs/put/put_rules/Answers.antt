@@ -1,55 +1,26 @@
-use native.Mathlib.Omega.{arith}
 use mathlib.Core.Path.{refl}
-use Rattle.tables.specs.Areas.{rule_tables, names_in}
-use Rattle.writer.proofs.Rules.{lines_none, lines_length, lines_done, rule_room, end_slot, lines_more}
-use borrow.Author.Rules.{rules}
+use mathlib.Core.List.{[], ◌∷◌}
+use native.Mathlib.Omega.{arith}
+use Rattle.grammar.specs.Bytes.{line_end}
+use Rattle.writer.proofs.Lines.{lines_start, lines_on, lines_end}
+use Rattle.writer.proofs.Pages.{left_start, left_as, left_end, piece_room, left_on}
 use Rattle.writer.proofs.put.put_rules.Goals as goal
 
 pub loop-j-init : goal.loop-j-init
-loop-j-init c = (
-  search rules,
-  refl,
-  lines_none (names_in c.args.spellings.now c.args.n) (rule_tables c.args.heads.now c.args.bodies.now) c.args.m c.args.text.now c.args.at
-      c.requires.room,
-)
+loop-j-init c = left_as (left_start _ _) (lines_start _ _ _)
 
-pub put_rule-end-requires : goal.put_rule-end-requires
-put_rule-end-requires c =
-    record {
-      n_le_names = (c.requires.n_le_names.0, search rules, c.requires.n_le_names.2, c.requires.n_le_names.3, c.requires.n_le_names.4);
-      room = rule_room (names_in c.args.spellings.now c.args.n) (rule_tables c.args.heads.now c.args.bodies.now)
-          c.args.m c.args.text.now c.args.at c.requires.room _ _ _ c.loop-j.invariant.2 c.loop-j-test.true;
-    }
+pub put_rule-requires-clause-room : goal.put_rule-requires-clause-room
+put_rule-requires-clause-room c = piece_room c.requires c.loop-j.invariant _ _ (lines_on _ _ _ _ (omega arith)) refl
 
-pub bounds-text-end : goal.bounds-text-end
-bounds-text-end c =
-    end_slot (names_in c.args.spellings.now c.args.n) (rule_tables c.args.heads.now c.args.bodies.now) c.args.m c.args.text.now c.args.at
-    c.requires.room _ _ _
-    c.loop-j.invariant.2 c.loop-j-test.true _ _
-    c.put_rule-end.ensures.text c.put_rule-end.ensures.next
-
-pub overflow_add-o : goal.overflow_add-o
-overflow_add-o c =
-    omega (
-      arith,
-      end_slot (names_in c.args.spellings.now c.args.n) (rule_tables c.args.heads.now c.args.bodies.now) c.args.m c.args.text.now c.args.at
-          c.requires.room _ _ _
-          c.loop-j.invariant.2 c.loop-j-test.true _ _
-          c.put_rule-end.ensures.text c.put_rule-end.ensures.next,
-    )
+pub push_byte-requires : goal.push_byte-requires
+push_byte-requires c =
+    let ruled = left_on c.requires c.loop-j.invariant _ _ (lines_on _ _ _ _ (omega arith)) refl c.put_rule.ensures in
+    piece_room c.requires ruled (line_end ∷ []) _ refl refl
 
 pub loop-j-preserved : goal.loop-j-preserved
 loop-j-preserved c =
-    let t = lines_more (names_in c.args.spellings.now c.args.n) (rule_tables c.args.heads.now c.args.bodies.now) c.args.m c.args.text.now c.args.at c.requires.room _ _ _
-    c.loop-j.invariant.2 c.loop-j-test.true _ _
-    c.put_rule-end.ensures.text c.put_rule-end.ensures.next in (
-      search rules,
-      lines_length (names_in c.args.spellings.now c.args.n) (rule_tables c.args.heads.now c.args.bodies.now) c.args.m c.args.text.now c.args.at
-          c.requires.room _ _ _ t,
-      t,
-    )
+    let ruled = left_on c.requires c.loop-j.invariant _ _ (lines_on _ _ _ _ (omega arith)) refl c.put_rule.ensures in
+    left_on c.requires ruled (line_end ∷ []) _ refl refl c.push_byte.ensures
 
 pub returns : goal.returns
-returns c =
-    lines_done (names_in c.args.spellings.now c.args.n) (rule_tables c.args.heads.now c.args.bodies.now) c.args.m c.args.text.now c.args.at
-    c.requires.room _ _ _ c.loop-j.invariant.2 c.loop-j-test.false
+returns c = left_end c.loop-j.invariant (lines_end _ _ _ _ (omega arith))

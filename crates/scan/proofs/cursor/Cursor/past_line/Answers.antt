@@ -1,15 +1,23 @@
+-- `scan::cursor::Cursor::past_line` meets its contract: the bytes in front of the line end are counted. Assumes nothing.
+use mathlib.Core.Path.{◌∙◌}
+use lib.ListN.{drop}
+use Rattle.std.proofs.Common.{rules, tests}
+use Rattle.std.proofs.lemmas.Iterator.{YieldsList-from_slice}
+use Rattle.std.proofs.lemmas.Iterator.Consumers.{count_from_yields_List}
+use Rattle.std.proofs.lemmas.Iterator.Search.{YieldsList-from_take_while}
 use Rattle.grammar.specs.Bytes.{not_end}
-use Rattle.scan.proofs.Scans.{on, stop, past_end}
-use Rattle.scan.proofs.Steps.{at_end, in_line, set_to}
+use Rattle.scan.proofs.Scans.{counted}
+use Rattle.scan.proofs.Steps.{set_to}
 use Rattle.scan.proofs.cursor.Cursor.past_line.Goals as goal
 
-pub loop-i-preserved : goal.loop-i-preserved
-loop-i-preserved c = on not_end c.args.text.now c.loop-i.i _ c.loop-i-test.true (in_line _ c.if-text-i-eq-LINE_END.false) c.loop-i.invariant
-
-pub returns-after-loop-i : goal.returns-after-loop-i
-returns-after-loop-i c = set_to _ _ _ (past_end not_end c.args.text.now c.loop-i.i _ c.loop-i-test.false c.loop-i.invariant)
-
-pub returns-then-text-i-eq-LINE_END : goal.returns-then-text-i-eq-LINE_END
-returns-then-text-i-eq-LINE_END c =
-    set_to _ _ _
-    (stop not_end c.args.text.now c.loop-i.i _ c.loop-i-test.true (at_end _ c.if-text-i-eq-LINE_END.true) c.loop-i.invariant)
+pub returns : goal.returns
+unfolding not_end
+returns c =
+    let t = c.args.text.now in
+    let at = c.args.self.at in
+    c.moved.ensures
+    ∙ set_to _ _ _
+    (counted not_end t at c.count-more.result
+    (count_from_yields_List c.take_while.result _ c.count-more.ensures.ran
+    (YieldsList-from_take_while _ not_end (YieldsList-from_slice (drop at t) (cc)) c.take_while.ensures.closure c.take_while.ensures.done
+    (λ x b q k. search (rules, tests)))))

@@ -1,13 +1,10 @@
--- `scan::cursor::Cursor::sees` meets its contract: the byte at the place, or the end. Assumes nothing.
-use Rattle.scan.proofs.Scans.{sees_in, sees_past}
+-- `scan::cursor::Cursor::sees` meets its contract: the byte at the place, or none past the end. Assumes nothing.
+use mathlib.Core.Path.{◌∙◌}
+use native.Mathlib.Omega.{arith}
+use Rattle.scan.proofs.Scans.{sees_get}
 use Rattle.scan.proofs.cursor.Cursor.sees.Goals as goal
 
-pub returns-then-at-text : goal.returns-then-at-text
-returns-then-at-text c =
-    let a = c.args in
-    sees_in a.text.now a.self.at a.b c.if-at-text.true
-
-pub returns-else-at-text : goal.returns-else-at-text
-returns-else-at-text c =
-    let a = c.args in
-    sees_past a.text.now a.self.at a.b c.if-at-text.false
+pub returns : goal.returns
+returns c =
+    let k = c.get.ensures.lookup in
+    c.eq.ensures ∙ sees_get c.args.text.now c.args.self.at _ _ c.get.result k.3 (k.4 (omega arith) 0)

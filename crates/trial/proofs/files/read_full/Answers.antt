@@ -1,7 +1,0 @@
-use Rattle.std.proofs.Common.{rules}
-use Rattle.trial.proofs.Filling.{filled_on}
-use Rattle.trial.proofs.files.read_full.Goals as goal
-
-pub loop-done-preserved : goal.loop-done-preserved
-loop-done-preserved g c =
-    (search rules, filled_on _ _ _ _ _ _ _ _ c.loop-done.invariant.0 c.in_ok-n.ensures.bound.0 c.loop-done.invariant.1 c.in_ok-n.ensures.bytes.0)
