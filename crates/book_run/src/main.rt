@@ -5,30 +5,22 @@
 mod spoilt;
 mod whole;
 
-use std::fs::Files;
+use std::io;
 use std::io::{BufWriter, Write};
-use std::{env, io};
 use trial::files;
 
 // In a file to be swept, a book, each `?` takes every byte value.
-fn argument<R: Files + AllocGlobal + Eprint, W: Write>(
-    rt: &R,
-    out: &mut W,
-    path: &str,
-) -> io::Result<()> {
-    let text = files::take(rt, out, path)?;
+fn show<W: Write>(out: &mut W, path: &str, text: &[u8]) -> io::Result<()> {
     if files::swept(path) {
-        whole::sweep(out, &text)
+        whole::sweep(out, text)
     } else {
-        whole::show(out, &text)
+        whole::show(out, text)
     }
 }
 
 fn main(rt: HostRuntime) -> io::Result<()> {
     let mut out = BufWriter::new(rt.alloc(), io::writer(&rt))?;
-    for path in env::args(&rt)?.skip(1) {
-        argument(&rt, &mut out, path.as_str())?;
-    }
+    files::each(&rt, &mut out, |out, path, text| show(out, path, text))?;
     spoilt::all(&mut out)?;
     out.flush()
 }

@@ -1,8 +1,7 @@
 // The tables of a small book with one entry, count or length changed, and what the writer answers; the reader and the look-up on areas
 // that are too short.
 use crate::whole;
-use limits::Book;
-use reader::Counts;
+use limits::{Book, Counts};
 use scan::table::folding;
 use std::io;
 use std::io::Write;
@@ -18,7 +17,7 @@ fn written_in<W: Write>(
 ) -> io::Result<()> {
     let mut text = [u8::MARK; TEXT];
     let answer = tables.write(&folding(), book, lent::first(&mut text, room));
-    write!(out, "{} {}", print::number(&answer), answer.unwrap_or(0))?;
+    print::counted(out, &answer)?;
     print::total(out, &text)?;
     writeln!(out)
 }
@@ -71,19 +70,10 @@ fn body<W: Write>(out: &mut W, at: usize, value: u64) -> io::Result<()> {
     spoilt(out, |tables| set(&mut tables.bodies, at, value))
 }
 
-// The number for one of the three areas.
-fn of_three(place: Place, spellings: usize, heads: usize, bodies: usize) -> usize {
-    match place {
-        Place::Spellings => spellings,
-        Place::Heads => heads,
-        _ => bodies,
-    }
-}
-
-// With areas of so many entries less than stated, for the writer and for the reader of another book.
-fn short<W: Write>(out: &mut W, a: usize, b: usize, c: usize) -> io::Result<()> {
+// With an area of one entry less than stated, or none, for the writer and for the reader of another book.
+fn short<W: Write>(out: &mut W, short: Option<Place>) -> io::Result<()> {
     let mut tables = small();
-    let mut lent = tables.lend(|place, stated| stated.saturating_sub(of_three(place, a, b, c)));
+    let mut lent = tables.lend(|place, stated| place.room(stated, short, 1));
     written(out, &lent, SMALL)?;
     whole::judge(out, b"DPB 0001\na:\n", &mut lent)?;
     Ok(())
@@ -111,10 +101,9 @@ fn long_tables(m: usize) -> Tables {
     tables.spellings.fill(b'a');
     tables.heads.fill(0);
     tables.bodies.fill(0);
-    for a in 0..Book::NAMES {
-        let at = Book::name_at(a);
-        set(&mut tables.spellings, at, b'a' + (a % 16) as u8);
-        set(&mut tables.spellings, at + 1, b'a' + (a / 16) as u8);
+    for (name, a) in tables.spellings.chunks_mut(Book::NAME_BYTES).zip(0..=127u8) {
+        set(name, 0, b'a' + a % 16);
+        set(name, 1, b'a' + a / 16);
     }
     tables.whole().fill_bodies(m);
     tables
@@ -154,12 +143,7 @@ fn cut<W: Write>(out: &mut W, one: usize, other: usize) -> io::Result<()> {
 // A short name area and a text that would be refused for itself.
 fn first_cause<W: Write>(out: &mut W, text: &[u8]) -> io::Result<()> {
     let mut tables = Tables::marked();
-    let mut lent = tables.lend(|place, _| of_three(
-        place,
-        Book::NAME_AREA - 1,
-        Book::RULES,
-        Book::BODY_AREA,
-    ));
+    let mut lent = tables.lend(|place, stated| place.room(stated, Some(Place::Spellings), 1));
     whole::judge(out, text, &mut lent)?;
     Ok(())
 }
@@ -226,8 +210,13 @@ fn writer_bodies<W: Write>(out: &mut W) -> io::Result<()> {
 }
 
 fn short_areas<W: Write>(out: &mut W) -> io::Result<()> {
-    for (a, b, c) in [(0, 0, 0), (1, 0, 0), (0, 1, 0), (0, 0, 1)] {
-        short(out, a, b, c)?;
+    for place in [
+        None,
+        Some(Place::Spellings),
+        Some(Place::Heads),
+        Some(Place::Bodies),
+    ] {
+        short(out, place)?;
     }
     room(out, Book::TEXT_BYTES)?;
     room(out, Book::TEXT_BYTES - 1)

@@ -1,10 +1,10 @@
 // Whole books: read, shown, written and read again.
-use reader::Counts;
+use limits::Counts;
 use scan::table::folding;
 use std::io;
 use std::io::Write;
 use trial::lent::{LentTables, Marked, TEXT, Tables};
-use trial::print;
+use trial::{calls, print};
 
 // Texts up to this long are printed whole.
 const SHORT: usize = 600;
@@ -15,11 +15,7 @@ pub fn judge<W: Write>(
     text: &[u8],
     tables: &mut LentTables,
 ) -> io::Result<Option<Counts>> {
-    let r = tables.read(text, &folding());
-    print::read(out, &r)?;
-    print::tables(out, tables)?;
-    writeln!(out)?;
-    Ok(r.ok())
+    calls::read(out, text, &folding(), tables)
 }
 
 // Reads into areas of its own.
@@ -31,10 +27,10 @@ fn judge_apart<W: Write>(out: &mut W, text: &[u8]) -> io::Result<()> {
 
 // Each name by number, and the empty part past the last.
 fn look_up<W: Write>(out: &mut W, spellings: &[u8], n: usize) -> io::Result<()> {
-    for a in 0..n {
+    for a in 0..=n {
         print::line(out, lexicon::look_up::look_up(spellings, n, a))?;
     }
-    print::line(out, lexicon::look_up::look_up(spellings, n, n))
+    Ok(())
 }
 
 // A text just written, of n names: prints it with its names where it is short, and reads it again.
@@ -67,16 +63,17 @@ pub fn show<W: Write>(out: &mut W, text: &[u8]) -> io::Result<()> {
     Ok(())
 }
 
-// Reads the text with v in place of each `?`.
+// Reads the text with v in place of each `?`, where it is short.
 fn with_byte<W: Write>(out: &mut W, text: &[u8], v: u8) -> io::Result<()> {
-    let mut copy = [0u8; 64];
-    for (byte, from) in copy.iter_mut().zip(text) {
-        *byte = if *from == b'?' { v } else { *from };
+    let mut area = [0; 64];
+    let Some(copy) = area.get_mut(..text.len()) else {
+        return Ok(());
+    };
+    copy.copy_from_slice(text);
+    for byte in copy.iter_mut().filter(|b| **b == b'?') {
+        *byte = v;
     }
-    if let Some(copied) = copy.get(..text.len()) {
-        judge_apart(out, copied)?;
-    }
-    Ok(())
+    judge_apart(out, copy)
 }
 
 pub fn sweep<W: Write>(out: &mut W, text: &[u8]) -> io::Result<()> {

@@ -53,11 +53,11 @@ module _ (fold : ℕ → ℕ) where
       let n : length (name_run fold t i) ≡ span (name_byte fold) (drop i t) = run_size (name_byte fold) (drop i t) in
       omega (arith, leb-true 1 (length (name_run fold t i)) (and_left (leb 1 (length (name_run fold t i))) _ e))
 
-  -- past a word, whose end is known, and the blanks after it, by two moves of the cursor
-  pub past_word : (t : Bytes) (i end line : ℕ) (moved past : Cursor) → end ≡ past_at (name_byte fold) t i → moved ≡ record { at = end; line = line }
-      → past ≡ record { at = unblank t moved.at; line = moved.line } → past.at ≡ unword fold t i
-  past_word t i end line moved past e m q =
-      ap (λ (k : Cursor). k.at) q ∙ ap (λ (k : Cursor). unblank t k.at) m ∙ ap (unblank t) e
+-- behind a word, whose end is known, and the blanks after it, by two moves of the cursor
+pub past_word : (fold : ℕ → ℕ) (t : Bytes) (i end line : ℕ) (moved behind : Cursor) → end ≡ past_at (name_byte fold) t i
+    → moved ≡ record { at = end; line = line } → behind ≡ record { at = unblank t moved.at; line = moved.line } → behind.at ≡ unword fold t i
+past_word fold t i end line moved behind e m q =
+    ap (λ (k : Cursor). k.at) q ∙ ap (λ (k : Cursor). unblank t k.at) m ∙ ap (unblank t) e
 
 -- a fault has its number
 pub fault_number : (f : Form) (k : ℕ) → f ≡ fault k → k ≡ fault_of f
@@ -108,6 +108,10 @@ module _ (fold : ℕ → ℕ) (law : Folding fold) where
     end_unword : past_at not_end t (unword fold t i) ≡ past_at not_end t i
     end_unword =
         end_past t (past_at (name_byte fold) t i) after_word blank blank_end ∙ end_past t i k (name_byte fold) end_name
+
+    -- both past in the text
+    pub behind_in : (mid : ℕ) → mid ≡ unword fold t i → mid < length t
+    behind_in mid e = subst (λ (j : ℕ). j < length t) (sym e) (in_text t (past_at (name_byte fold) t i) after_word blank blank_end)
 
     run_name : name_run fold t i ≡ run (name_byte fold) (line_at t i)
     run_name = run_line t i k (name_byte fold) end_name
@@ -178,10 +182,6 @@ module _ (fold : ℕ → ℕ) (law : Folding fold) where
 
       mid_sees : starts colon (drop mid t) ≡ starts colon (past blank (past (name_byte fold) (line_at t i)))
       mid_sees = sees_line t mid mid_closed colon refl ∙ ap (starts colon) mid_line
-
-      -- it lies in the text
-      pub behind_in : mid < length t
-      behind_in = subst (λ (j : ℕ). j < length t) (sym at) (in_text t (past_at (name_byte fold) t i) (after_word t i k) blank blank_end)
 
       -- no colon there
       pub uncoloned : is_name fold (name_run fold t i) ≡ true → starts colon (drop mid t) ≡ false → form_from fold t i ≡ fault (byte_fault fold (line_at t mid))

@@ -211,6 +211,3 @@ pub some_on : (a b c : Option ℕ) → IfSome b (λ h. a ≡ Some h) → IfSome 
 some_on a b None p q = tt
 some_on a None (Some h) p q = cc
 some_on a (Some g) (Some h) p q = p ∙ q
-
--- what proves that a name joins a row
-pub ruleset joined = (joins_low, joins_one, joins_full)

@@ -17,7 +17,7 @@ use Rattle.grammar.specs.Bytes.{Bytes}
 use Rattle.scan.specs.Hash.{hash_of}
 use Rattle.tables.specs.Numbering.{place, meet}
 use Rattle.tables.specs.Areas.{padded, name_rows, names_in}
-use Rattle.tables.proofs.Numbering.{place_new, meet_known, meet_new, by_place}
+use Rattle.tables.proofs.Numbering.{place_at, place_new, meet_known, meet_new, by_place}
 use Rattle.lexicon.specs.Index.{Indexed, Storable, none_added, entered, entered_area}
 use Rattle.lexicon.proofs.Entering.{settled_name, settled_new, kept_area, kept_index, new_area, new_index, entered_length, entered_past, entered_names, entered_begun, entered_fine}
 use Rattle.lexicon.proofs.Entering.{entered_meet, meet_fits, meet_over}
@@ -89,27 +89,28 @@ module _ (w : Bytes) (x : Lexicon) (k : InOrder x) (f : Storable w) where
           kept = kept_entered;
         }
 
-  -- a known name: nothing changes
-  pub met_known : (number : ℕ) → number < x.count → number ≡ place ns w → Meeting w true number x x
-  met_known number l p =
-      let o : (number < x.count) ⊎ (eqb x.count names ≡ true) = inl l in
-      with_room x (kept_area x.area w x.count number x.first x.prior k.index p o)
-      (kept_index x.area w x.count number x.first x.prior k.index p o) number p (omega (arith, k.few))
-      (k.count ∙ sym (same_count ns w (settled_name ns w (omega (arith, p, k.count))))) k.few
-
   -- a new name, and room: it has the next row, and leads its bucket
   module _ (new : place ns w ≡ x.count) where
-    pub met_new : (y : Lexicon) → (x.count ≡ names → ⊥) → y.count ≡ x.count + 1 → y.area ≡ put (x.count * name_bytes) (padded w) x.area
-        → y.first ≡ set x.first (hash_of w) (x.count + 1) → y.prior ≡ set x.prior x.count (get_or x.first (hash_of w) 0)
+    pub met_new : (y : Lexicon) (h : ℕ) → h ≡ hash_of w → (x.count ≡ names → ⊥) → y.count ≡ x.count + 1
+        → y.area ≡ put (x.count * name_bytes) (padded w) x.area
+        → y.first ≡ set x.first h (x.count + 1) → y.prior ≡ set x.prior x.count (get_or x.first h 0)
         → Meeting w true x.count x y
-    met_new y m n a g b =
+    met_new y h e m n a g b =
         let lt : x.count < names = omega (arith, k.few, m) in
         let s : none_added ns w ≡ false = settled_new ns w (omega (arith, new, k.count)) (omega (arith, k.count)) in
         with_room y
         (new_area x.area w x.count x.count x.first x.prior k.index (sym new) (omega arith) lt y.area a)
         (subst₂ (Indexed (entered ns w)) (sym g) (sym b)
-        (new_index x.area w x.count x.count x.first x.prior k.index (sym new) (omega arith) lt (hash_of w) refl))
+        (new_index x.area w x.count x.count x.first x.prior k.index (sym new) (omega arith) lt h e))
         x.count (sym new) lt (omega (arith, n, more_count ns w s, k.count)) (omega (arith, n))
 
--- what proves that a new name is entered
-pub ruleset enters = (met_full, met_new)
+-- a known name: it is fit for the name area, as each of them, and nothing changes
+pub met_known : (w : Bytes) (x : Lexicon) → InOrder x → (number : ℕ) → number < x.count → number ≡ place (names_at x) w → Meeting w true number x x
+met_known w x k number l p =
+    let ns : List Bytes = names_at x in
+    let m : place ns w < length ns = omega (arith, p, k.count) in
+    let f : Storable w = subst Storable (place_at ns w m) (k.fine (place ns w) m) in
+    let o : (number < x.count) ⊎ (eqb x.count names ≡ true) = inl l in
+    with_room w x k f x (kept_area x.area w x.count number x.first x.prior k.index p o)
+    (kept_index x.area w x.count number x.first x.prior k.index p o) number p (omega (arith, k.few))
+    (k.count ∙ sym (same_count ns w (settled_name ns w m))) k.few

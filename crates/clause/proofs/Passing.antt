@@ -1,10 +1,11 @@
 -- The words of a body passed one after another: what is read and what is entered go together.
 -- Assumes nothing.
-use mathlib.Core.Path.{◌≡◌, refl, sym, ap, ◌∙◌, subst}
+use mathlib.Core.Path.{◌≡◌, sym, ap, ◌∙◌, subst}
 use mathlib.Core.Bool.{Bool, true, false}
 use mathlib.Core.List.{List, [], ◌∷◌, ◌++◌, map}
 use Prim.Native.Nat.{ℕ}
 use lib.ListN.{drop}
+use Rattle.std.proofs.lemmas.List.{map-append}
 use Rattle.limits.specs.Book.{name_area}
 use Rattle.grammar.specs.Bytes.{Bytes, Folding, line_end}
 use Rattle.grammar.specs.Lines.{is_name, starts, word_fault, words_fault}
@@ -15,11 +16,6 @@ use Rattle.clause.proofs.Forms.{Walk, walk_start, same_words, same_end, walk_fau
 use Rattle.clause.specs.Found.{Kept, Lexicon, names_at, InOrder, Onward, Bodied}
 use Rattle.clause.proofs.Rows.{kept_same, kept_on}
 use Rattle.clause.proofs.Joining.{onward_start, onward_more}
-
--- a map over one more
-map_more : {A B : Type 0} (f : A → B) (xs : List A) (y : A) → map f xs ++ (f y ∷ []) ≡ map f (xs ++ (y ∷ []))
-map_more f [] y = refl
-map_more {A} {B} f (x ∷ xs) y = ap (λ (zs : List B). f x ∷ zs) (map_more f xs y)
 
 -- from place i the words up to j are passed: each a name, and joined to the row while there is room
 pub record Passed (fold : ℕ → ℕ) (t : Bytes) (i j : ℕ) (room : Bool) (x : Lexicon) (room₁ : Bool) (x₁ : Lexicon)
@@ -52,7 +48,7 @@ module _ (fold : ℕ → ℕ) (law : Folding fold) (t : Bytes) (i j : ℕ) (room
           walk = walk_on fold law t i j p.words p.walk next e (subst (λ (n : ℕ). is_name fold (name_run fold t n) ≡ true) b g) q;
           kept = kept_on name_area x.area x₁.area x₂.area p.kept kept;
           onward =
-              subst (λ (ws : List Bytes). Onward room (names_at x) ws room₂ x₂ row row₂) (map_more (map fold) p.words (name_run fold t j))
+              subst (λ (ws : List Bytes). Onward room (names_at x) ws room₂ x₂ row row₂) (sym (map-append (map fold) p.words (name_run fold t j ∷ [])))
               (onward_more room (names_at x) (map (map fold) p.words) room₁ x₁ row row₁ p.onward (name_folded fold t j ∷ []) room₂ x₂ row₂
               (subst (λ (u : Bytes). Onward room₁ (names_at x₁) (u ∷ []) room₂ x₂ row₁ row₂) (f ∙ ap (name_folded fold t) b) d));
         }

@@ -13,7 +13,7 @@ use Rattle.clause.specs.Found as found
 
 -- the names with their index
 abbrev pub held : Lexicon → found.Lexicon
-held l = found.lexicon_of l.count l.spellings.now l.first l.prior
+held l = found.lexicon_of l.count l.spellings.now l.first.now l.prior.now
 
 -- the word is the run of name bytes where it begins, with its bucket
 pub record Run (fold : ℕ → ℕ) (t : Bytes) (word : Word) : Type 0 where

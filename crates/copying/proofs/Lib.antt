@@ -1,2 +1,2 @@
 pub mod Putting
-pub mod Line
+pub mod Texts

@@ -1,8 +1,10 @@
-// Bytes copied into an area.
+// Bytes copied into an area, and text that is put into one part after part.
 #![tactic(auto)]
 
 ghost use Rattle.std.specs.Prelude.{◌≡◌, ◌+◌, ◌≤◌, length};
 ghost use Rattle.areas.specs.Area.{put};
+
+pub mod text;
 
 // Copies all of src to place `at` of the area, and returns the place after it.
 pub fn copy(src: &[u8], area: &mut [u8], at: usize) -> usize

@@ -9,6 +9,7 @@ ghost use Rattle.hosting.specs.Call.{host_call};
 const REFUSAL_UNIT: u64 = 65536;
 
 // Lists the book after so many folds. Returns 0, or refusal × 65,536 + line.
+// A C host has u64 numbers, between which and usize there is no `From`; a `try_from` would have an arm that never comes.
 #[unsafe(no_mangle)]
 pub extern "C" fn dpb_list(text: &[u8], folds: u64, listing: &mut [u8]) -> u64
     ensures { record { returned = result; listing = listing.new }

@@ -5,20 +5,17 @@ use mathlib.Core.Logic.{⊎_elim}
 use mathlib.Core.List.{List, [], ◌∷◌, ◌++◌}
 use Prim.Native.Nat.{ℕ, ◌+◌, ◌≤◌}
 use native.Mathlib.Omega.{arith}
-use lib.ListN.{length, length-append}
+use lib.ListN.{length}
 use borrow.Author.Tests.{eq-eqb}
 use Rattle.limits.specs.Book.{folds, listing_bytes}
 use Rattle.sets.proofs.Logic.{pick_true}
 use Rattle.grammar.specs.Bytes.{Bytes, line_end, letters, our_letters}
 use Rattle.grammar.specs.Letters.{FoldTable, our_table}
 use Rattle.grammar.proofs.Letters.{our_table_lem}
-use Rattle.areas.specs.Area.{put, begun, cleared}
-use Rattle.areas.proofs.Begun.{put_front}
+use Rattle.areas.specs.Area.{begun, cleared}
 use Rattle.limits.specs.Refusal.{number_of}
 use Rattle.limits.specs.declared.Refusal.{Refusal as Cause}
-use Rattle.reader.proofs.Calling.{number_some}
-use Rattle.listing.specs.Text.{Room, Puts}
-use Rattle.listing.specs.declared.text.Text.{Text}
+use Rattle.limits.proofs.Numbers.{number_some}
 use Rattle.grammar.specs.Grammar.{joined}
 use Rattle.tables.specs.Reading.{Reading, book_of}
 use Rattle.solver.specs.End.{listed_end}
@@ -51,28 +48,19 @@ module _ (table : List ℕ) (passes : FoldTable table) (t old : Bytes) (exact : 
 -- a refusal by our table
 module _ (t old : Bytes) (exact : length old ≡ listing_bytes) (cause : Cause) {place : ℕ} {area : Bytes}
     (e : record { number = number_of cause; line = place; listing = area } ≡ list_call our_table t folds old)
-    {number : ℕ} (n : number ≡ number_of cause) (x : Text) (front : x.end ≡ 0) (empty : x.area.now ≡ area) where
-  abbrev line : Bytes
-  line = refusal_line number place ++ (line_end ∷ [])
-
-  room : length (refusal_line number place) + 1 ≤ length area
-  room =
-      let r = refusal_room our_table our_table_lem t old exact _ e (number_some cause) in
-      omega (arith, ap (λ (i : ℕ). length (refusal_line i place)) n)
-
-  line_size : length line ≡ length (refusal_line number place) + 1
-  line_size = length-append (refusal_line number place) (line_end ∷ [])
-
+    {number : ℕ} (n : number ≡ number_of cause) where
   -- there is room for its line
-  pub line_room : Room x line
-  line_room = omega (arith, front, ap length empty, room, line_size)
+  pub line_room : length (refusal_line number place) + 1 ≤ length area
+  line_room =
+      let r = refusal_room our_table our_table_lem t old exact _ e (number_some cause) in
+      omega (arith, r, ap (λ (i : ℕ). length (refusal_line i place)) n)
 
   -- which is put, with zeros after it
-  pub print_line : {y : Text} → Puts x line y → {end : ℕ} → end ≡ y.end → {new : Bytes} → new ≡ y.area.now → (last : Bytes)
-      → last ≡ cleared end listing_bytes new → record { count = end; area = last } ≡ print_call our_letters t
-  print_line p at left last z =
-      let text = left ∙ p.area ∙ ap₂ (λ (i : ℕ) (s : Bytes). put i line s) front empty ∙ put_front line area in
+  pub print_line : {end : ℕ} {new : Bytes} → end ≡ length (refusal_line number place) + 1
+      → new ≡ begun (refusal_line number place ++ (line_end ∷ [])) area
+      → (last : Bytes) → last ≡ cleared end listing_bytes new → record { count = end; area = last } ≡ print_call our_letters t
+  print_line at p last z =
       print_ours t
       (print_refused our_table our_table_lem t old exact _ e (number_some cause) _ _
-      (text ∙ ap (λ (i : ℕ). begun (refusal_line i place ++ (line_end ∷ [])) area) n)
-      (omega (arith, at, p.end, front, line_size, ap (λ (i : ℕ). length (refusal_line i place)) n)) last z)
+      (p ∙ ap (λ (i : ℕ). begun (refusal_line i place ++ (line_end ∷ [])) area) n)
+      (at ∙ ap (λ (i : ℕ). length (refusal_line i place) + 1) n) last z)

@@ -14,7 +14,6 @@ ghost use Rattle.hosting.specs.Print.{print_call};
 pub mod parts;
 
 use limits::{Book, Refused};
-use listing::text::Text;
 use parts::put_refusal;
 use scan::letters::Letters;
 use solver::Areas;
@@ -57,9 +56,7 @@ pub fn print(text: &[u8], out: &mut [u8; Book::LISTING_BYTES]) -> usize
     match list(text, Book::FOLDS, out) {
         Ok(end) => end,
         Err(refused) => {
-            let mut line = Text::new(out);
-            put_refusal(&mut line, refused.cause.number(), refused.line);
-            let end = line.end();
+            let end = put_refusal(out, refused.cause.number(), refused.line);
             rows::clear::clear(out, end, Book::LISTING_BYTES);
             end
         }

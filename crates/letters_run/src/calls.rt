@@ -1,10 +1,10 @@
 // The calls under a lent table, each in areas of its own, and what is printed of it: the answer, a checksum of each area that is lent, and listings
 // and texts that are short.
-use reader::Counts;
+use limits::Counts;
 use std::io;
 use std::io::Write;
 use trial::lent::{Areas, LentTables, Marked, Place, TEXT, Tables};
-use trial::{lent, print};
+use trial::{calls, lent, print};
 
 // What is changed in a case.
 #[derive(Clone, Copy, PartialEq, Eq)]
@@ -43,7 +43,8 @@ impl From<u8> for Change {
 }
 
 impl Change {
-    // How many entries are lent of an area with this stated size.
+    // How many entries are lent of an area with this stated size. `Place::room` does not serve: what is not short is lent whole here, past the stated
+    // size too.
     fn room(self, place: Place, stated: usize) -> usize {
         if self == Change::Short(place) {
             stated.saturating_sub(1)
@@ -64,14 +65,13 @@ impl Change {
 // Texts up to this long are printed whole.
 const SHORT: usize = 300;
 
+// Text and table are not taken as one: in a sweep the table is another than the call's, and what is read again is a text just written.
 pub fn read<W: Write>(out: &mut W, text: &[u8], table: &[u8], change: Change) -> io::Result<()> {
     let mut tables = Tables::marked();
     let mut lent = tables.lend(|place, stated| change.room(place, stated));
-    let r = lent.read(text, table);
     write!(out, "read ")?;
-    print::read(out, &r)?;
-    print::tables(out, &lent)?;
-    writeln!(out)
+    calls::read(out, text, table, &mut lent)?;
+    Ok(())
 }
 
 pub fn solve<W: Write>(
@@ -83,17 +83,16 @@ pub fn solve<W: Write>(
 ) -> io::Result<()> {
     let mut areas = Areas::marked();
     let mut lent = areas.lend(|place, stated| change.room(place, stated));
-    let r = lent.solve(text, table, folds);
     write!(out, "solve ")?;
-    print::solved(out, &r)?;
-    print::areas(out, &lent)?;
+    let r = calls::solve(out, text, table, folds, &mut lent)?;
     if change != Change::Brief {
         print::listing(out, &r, &lent)?;
     }
     Ok(())
 }
 
-// A text just written under the table: read again.
+// A text just written under the table: read again. This and the writing are not one with those of book_run, which print names between the text and
+// the reading, less in front and a checksum of more: a function for both would take each as a parameter.
 fn reread<W: Write>(out: &mut W, text: &[u8], table: &[u8]) -> io::Result<()> {
     if text.len() <= SHORT {
         out.write_all(text)?;
@@ -111,12 +110,8 @@ fn write<W: Write>(
     let mut text = [u8::MARK; TEXT];
     let to = lent::first(&mut text, change.text_room());
     let answer = tables.write(table, book, to);
-    write!(
-        out,
-        "write {} {}",
-        print::number(&answer),
-        answer.unwrap_or(0)
-    )?;
+    write!(out, "write ")?;
+    print::counted(out, &answer)?;
     print::total(out, to)?;
     writeln!(out)?;
     if let Ok(size) = answer

@@ -7,22 +7,17 @@ mod cases;
 mod ours;
 mod sweep;
 
-use std::fs::Files;
+use std::io;
 use std::io::{BufWriter, Write};
-use std::{env, io};
-use trial::files;
+use trial::{files, print};
 
-fn argument<R: Files + AllocGlobal + Eprint, W: Write>(
-    rt: &R,
-    out: &mut W,
-    path: &str,
-) -> io::Result<()> {
-    let file = files::take(rt, out, path)?;
-    for case in cases::Cases::of(&file) {
-        if files::swept(path) {
-            sweep::each(out, &case)?;
-        } else {
-            cases::show(out, &case)?;
+fn show<W: Write>(out: &mut W, path: &str, file: &[u8]) -> io::Result<()> {
+    for case in cases::Cases::of(file) {
+        print::line(out, case.title)?;
+        match case.call {
+            Some(call) if files::swept(path) => sweep::each(out, &call)?,
+            Some(call) => cases::show(out, &call)?,
+            None => {}
         }
     }
     Ok(())
@@ -30,8 +25,6 @@ fn argument<R: Files + AllocGlobal + Eprint, W: Write>(
 
 fn main(rt: HostRuntime) -> io::Result<()> {
     let mut out = BufWriter::new(rt.alloc(), io::writer(&rt))?;
-    for path in env::args(&rt)?.skip(1) {
-        argument(&rt, &mut out, path.as_str())?;
-    }
+    files::each(&rt, &mut out, |out, path, file| show(out, path, file))?;
     out.flush()
 }

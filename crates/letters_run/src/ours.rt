@@ -4,16 +4,17 @@ use limits::Book;
 use scan::table;
 use std::io;
 use std::io::Write;
-use trial::lent::{Marked, TEXT, first, letters};
+use trial::lent::{Marked, TEXT, letters};
 use trial::print;
 
-// As many bytes are lent as `old` has; the checksum is of the whole area.
+// As many bytes are lent as `old` has, where the area has so many; the checksum is of the whole area.
 fn fill<W: Write>(out: &mut W, old: &[u8]) -> io::Result<()> {
     let mut area = [u8::MARK; TEXT];
-    for (byte, from) in area.iter_mut().zip(old) {
-        *byte = *from;
-    }
-    let answer = table::fill(first(&mut area, old.len()));
+    let Some(lent) = area.get_mut(..old.len()) else {
+        return Ok(());
+    };
+    lent.copy_from_slice(old);
+    let answer = table::fill(lent);
     write!(out, "fill {}", print::number(&answer))?;
     print::total(out, &area)?;
     writeln!(out)

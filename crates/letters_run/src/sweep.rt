@@ -2,40 +2,37 @@
 // the writer of the book as it is read under the table unchanged.
 use crate::calls;
 use crate::calls::Change;
-use crate::cases::Case;
+use crate::cases::Call;
 use limits::Book;
 use std::io;
 use std::io::Write;
-use trial::print;
 
-fn one<W: Write>(out: &mut W, case: &Case, b: u8, value: u8) -> io::Result<()> {
+fn one<W: Write>(out: &mut W, call: &Call, b: u8, value: u8) -> io::Result<()> {
     let mut changed = [0; Book::LETTER_BYTES];
-    for (entry, from) in changed.iter_mut().zip(case.table) {
-        *entry = *from;
-    }
-    changed[b as usize] = value;
+    let shared = call.table.len().min(changed.len());
+    changed[..shared].copy_from_slice(&call.table[..shared]);
+    changed[usize::from(b)] = value;
     writeln!(out, "{b} {value}")?;
-    calls::read(out, case.text, &changed, Change::Brief)?;
-    calls::solve(out, case.text, &changed, case.folds, Change::Brief)?;
-    calls::rewrite(out, case.text, case.table, &changed, Change::Brief)
+    calls::read(out, call.text, &changed, Change::Brief)?;
+    calls::solve(out, call.text, &changed, call.folds, Change::Brief)?;
+    calls::rewrite(out, call.text, call.table, &changed, Change::Brief)
 }
 
 // Other entries for byte b.
-fn byte<W: Write>(out: &mut W, case: &Case, b: u8) -> io::Result<()> {
-    let entry = case.table.get(b as usize).copied().unwrap_or(0);
+fn byte<W: Write>(out: &mut W, call: &Call, b: u8) -> io::Result<()> {
+    let entry = call.table.get(usize::from(b)).copied().unwrap_or(0);
     let letter = if entry == b'q' { b'r' } else { b'q' };
     for value in [0, b, letter] {
         if value != entry {
-            one(out, case, b, value)?;
+            one(out, call, b, value)?;
         }
     }
     Ok(())
 }
 
-pub fn each<W: Write>(out: &mut W, case: &Case) -> io::Result<()> {
-    print::line(out, case.title)?;
+pub fn each<W: Write>(out: &mut W, call: &Call) -> io::Result<()> {
     for b in 0..=u8::MAX {
-        byte(out, case, b)?;
+        byte(out, call, b)?;
     }
     Ok(())
 }

@@ -4,17 +4,17 @@ use mathlib.Core.Path.{◌≡◌, refl, sym, ap, ap₂, subst, ◌∙◌}
 use mathlib.Core.Logic.{◌⊎◌, ⊎_elim}
 use mathlib.Core.List.{List, [], ◌∷◌, ◌++◌, append-nil}
 use mathlib.Core.Bool.{true, false}
-use Prim.Native.Nat.{ℕ, zero, suc, ◌+◌, ◌-◌, ◌*◌, ◌≤◌, ◌<◌}
+use Prim.Native.Nat.{ℕ, zero, suc, ◌+◌, ◌*◌, ◌≤◌, ◌<◌}
 use native.Mathlib.Omega.{arith}
 use lib.Dec.{eqb, leb, ltb}
-use lib.ListN.{length, get_or, drop, set, replicate, length-append, length-drop, length-set, length-replicate, get_or-replicate, get_or-append}
-use lib.Seq.{get_or_at, get_or-set_same, get_or-set_other, take_all, ext_get_or}
+use lib.ListN.{length, get_or, drop, set, replicate, length-append, length-set, length-replicate, get_or-replicate, get_or-append}
+use lib.Seq.{get_or_at, get_or-set_same, get_or-set_other, ext_get_or}
 use borrow.Author.Tests.{eqb-true, eqb-false, le-leb, lt-leb, leb-true, leb-false, lt-ltb, le-ltb}
 use Rattle.limits.specs.Book.{names, name_bytes, name_area}
 use Rattle.sets.specs.Set.{pick}
 use Rattle.sets.proofs.Logic.{either, clash, or_left, or_right, pick_true, pick_false}
 use Rattle.areas.specs.Area.{part, put, begun}
-use Rattle.areas.proofs.Parts.{length_put, part_put, part_put_before, part_put_after}
+use Rattle.areas.proofs.Parts.{length_put, part_put, part_put_before, put_past}
 use Rattle.areas.proofs.Begun.{put_begun}
 use Rattle.grammar.specs.Bytes.{Bytes}
 use Rattle.grammar.specs.Lines.{run}
@@ -237,14 +237,6 @@ meet_over ns w h m =
 
 -- The area.
 
--- what lies past the elements put is as it was
-put_past : (at : ℕ) (ys area : List ℕ) (k : ℕ) → at + length ys ≤ length area → at + length ys ≤ k → drop k (put at ys area) ≡ drop k area
-put_past at ys area k h l =
-    let p : length (drop k (put at ys area)) ≡ length (drop k area) =
-    length-drop k (put at ys area) ∙ ap (λ (n : ℕ). n - k) (length_put at ys area h) ∙ sym (length-drop k area) in
-    let all : (xs : List ℕ) → drop k xs ≡ part k (length (drop k xs)) xs = λ xs. sym (take_all (length (drop k xs)) (drop k xs) (omega arith)) in
-    all (put at ys area) ∙ part_put_after at ys area k (length (drop k (put at ys area))) h l ∙ ap (λ (n : ℕ). part k n area) p ∙ sym (all area)
-
 -- a fine word entered into an area
 module _ (ns : List Bytes) (w area : Bytes) (f : Fine w) (long : name_area ≤ length area) where
   -- the row of a new name lies within the area
@@ -268,7 +260,7 @@ module _ (ns : List Bytes) (w area : Bytes) (f : Fine w) (long : name_area ≤ l
       (λ e.
       let l : length ns * name_bytes + length (padded w) ≤ name_area = row_fits e in
       ap (drop name_area) (area_new ns w area e)
-      ∙ put_past (length ns * name_bytes) (padded w) area name_area (omega arith) l)
+      ∙ put_past (length ns * name_bytes) (padded w) area (omega arith) name_area l)
 
 -- the names of an area, where each stands in its row
 names_are : (area : Bytes) (ms : List Bytes) → ((i : ℕ) → i < length ms → name_at area i ≡ get_or ms i []) → names_in area (length ms) ≡ ms

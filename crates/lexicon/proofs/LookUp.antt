@@ -10,12 +10,13 @@ use lib.ListN.{length, take, drop}
 use borrow.Author.Tests.{le-ltb, lt-leb, lt-ltb, le-leb}
 use Rattle.std.specs.Prelude.{take_while}
 use Rattle.std.specs.List.{prefix_len}
+use Rattle.std.proofs.lemmas.List.Folds.{length-prefix_len}
 use Rattle.limits.specs.Book.{names, name_bytes, name_area}
 use Rattle.sets.proofs.Logic.{either, and_make, pick_true, pick_false}
 use Rattle.areas.specs.Area.{part}
 use Rattle.grammar.specs.Bytes.{Bytes}
-use Rattle.grammar.specs.Lines.{span}
-use Rattle.grammar.proofs.Spans.{span_nil, span_yes, span_no, run_size}
+use Rattle.grammar.specs.Lines.{span, run}
+use Rattle.grammar.proofs.Spans.{span_nil, span_yes, span_no}
 use Rattle.tables.specs.Areas.{nonzero, name_at, look_up}
 use Rattle.lexicon.specs.Place.{look_up_at}
 
@@ -29,6 +30,14 @@ unfolding nonzero
 span_prefix [] = sym (span_nil nonzero)
 span_prefix (b ∷ s) =
     either (filled b) (λ e. rw e (sym (span_yes nonzero b s e ∙ omega (arith, span_prefix s)))) (λ e. rw e (sym (span_no nonzero b s e)))
+
+-- so they are the row's run of bytes that are not zero
+pub name_run : (row : Bytes) → take_while filled row ≡ run nonzero row
+name_run row = ap (λ (i : ℕ). take i row) (span_prefix row)
+
+-- as many bytes from the front as a name has are the name
+pub name_front : (row : Bytes) (len : ℕ) → len ≡ length (take_while filled row) → take len row ≡ take_while filled row
+name_front row len e = ap (λ (i : ℕ). take i row) (e ∙ length-prefix_len filled row)
 
 module _ (area : Bytes) (n a : ℕ) where
   -- the test of the look-up
@@ -76,20 +85,17 @@ module _ (area : Bytes) (n a : ℕ) where
   passes : a < n → n ≤ names → name_area ≤ length area → known ≡ true
   passes l m r = and_make (lt-ltb a n l) (and_make (le-leb n names m) (le-leb name_area (length area) r))
 
-  pub hands : (at len : ℕ) → at ≡ a * name_bytes → a < n → n ≤ names → name_area ≤ length area
-      → len ≡ length (take_while filled (take (at + name_bytes - at) (drop at area))) → take len (take (at + name_bytes - at) (drop at area)) ≡ look_up area n a
+  pub hands : (at : ℕ) (r : Bytes) → at ≡ a * name_bytes → a < n → n ≤ names → name_area ≤ length area
+      → r ≡ take_while filled (take (at + name_bytes - at) (drop at area)) → r ≡ look_up area n a
   unfolding look_up name_at
-  hands at len q l m r e =
-      let row : Bytes = part (a * name_bytes) name_bytes area in
+  hands at r q l m k e =
       let w : at + name_bytes - at ≡ name_bytes = omega arith in
-      let p : take (at + name_bytes - at) (drop at area) ≡ row = ap₂ (λ (i j : ℕ). take i (drop j area)) w q in
-      let k : len ≡ span nonzero row =
-      e ∙ ap (λ (s : Bytes). length (take_while filled s)) p ∙ ap (λ (i : ℕ). length (take i row)) (span_prefix row) ∙ run_size nonzero row in
-      ap₂ (λ (i : ℕ) (s : Bytes). take i s) k p ∙ sym (pick_true (name_at area a) [] (passes l m r))
+      let p : take (at + name_bytes - at) (drop at area) ≡ part (a * name_bytes) name_bytes area = ap₂ (λ (i j : ℕ). take i (drop j area)) w q in
+      e ∙ ap (take_while filled) p ∙ name_run (part (a * name_bytes) name_bytes area) ∙ sym (pick_true (name_at area a) [] (passes l m k))
 
   pub at_row : a < n → n ≤ names → name_area ≤ length area → look_up_at area n a ≡ a * name_bytes
   unfolding look_up_at
   at_row l m r = pick_true (a * name_bytes) 0 (passes l m r)
 
--- what proves the look-up
+-- what proves that a name is taken from its row, and the look-up
 pub ruleset looks = (hands, at_row, none_short, none_many, none_high, start_short, start_many, start_high)

@@ -1,8 +1,7 @@
--- The row of a name in the area: as it is lent, and as it comes back.
+-- The row of a name in the area, as it is lent.
 -- Assumes nothing.
-use mathlib.Core.Path.{◌≡◌, ap₂}
-use Prim.Native.Nat.{ℕ, ◌+◌, ◌-◌, ◌*◌}
-use native.Mathlib.Omega.{arith}
+use mathlib.Core.Path.{◌≡◌, ap}
+use Prim.Native.Nat.{ℕ, ◌*◌}
 use lib.ListN.{take, drop}
 use Rattle.limits.specs.Book.{name_bytes}
 use Rattle.grammar.specs.Bytes.{Bytes}
@@ -11,9 +10,7 @@ use Rattle.tables.specs.Numbering.{same_bytes}
 use Rattle.tables.specs.Areas.{nonzero, name_at}
 
 -- the row that is lent is that of name a
-pub spelt : (area w : Bytes) (a at : ℕ) → at ≡ a * name_bytes
-    → same_bytes (run nonzero (take (at + name_bytes - at) (drop at area))) w ≡ same_bytes (name_at area a) w
+pub spelt : (area row w : Bytes) (a : ℕ) → row ≡ take name_bytes (drop (a * name_bytes) area)
+    → same_bytes (run nonzero row) w ≡ same_bytes (name_at area a) w
 unfolding name_at
-spelt area w a at q =
-    let k : at + name_bytes - at ≡ name_bytes = omega arith in
-    ap₂ (λ (i j : ℕ). same_bytes (run nonzero (take i (drop j area))) w) k q
+spelt area row w a q = ap (λ (s : Bytes). same_bytes (run nonzero s) w) q

@@ -2,18 +2,20 @@
 -- Assumes nothing.
 use mathlib.Core.Path.{◌≡◌, refl, sym, ap, ap₂, ◌∙◌}
 use mathlib.Core.List.{[], ◌∷◌, ◌++◌, map, append_assoc}
-use mathlib.Core.Bool.{Bool, true, false, not, ◌&&◌, ◌||◌}
-use Prim.Native.Nat.{ℕ, zero, suc, ◌+◌, ◌-◌, ◌≤◌, ◌<◌}
-use native.Mathlib.Nat.{add-zero}
+use mathlib.Core.Bool.{Bool, true, false, not, ◌&&◌, ◌||◌, and_assoc}
+use Prim.Native.Nat.{ℕ, suc, ◌+◌, ◌-◌, ◌≤◌, ◌<◌}
 use native.Mathlib.Numerals.{add-one}
 use native.Mathlib.Omega.{arith}
 use lib.Dec.{eqb, leb, eqb-suc-zero}
-use lib.ListN.{length, get_or, take, drop, set, replicate, length-drop, length-map, drop_of_length-le}
-use lib.Seq.{drop-cons, get_or-drop, length-take-le, take_all, take-suc, set-append_seam}
+use lib.ListN.{length, get_or, take, set, replicate, length-map}
+use lib.Seq.{length-take-le, take_all, take-suc, set-append_seam}
 use borrow.Author.Tests.{eq-eqb, ne_eqb, eqb-true, eqb-false, leb-true}
+use Rattle.std.specs.Prelude.{zip}
+use Rattle.std.proofs.lemmas.List.{get_or-map}
+use Rattle.std.specs.List.{list_all}
 use Rattle.limits.specs.Book.{name_bytes}
 use Rattle.sets.specs.Set.{pick}
-use Rattle.sets.proofs.Logic.{either, clash, and_left, and_right, and_make, of_not, or_left}
+use Rattle.sets.proofs.Logic.{either, clash, and_left, and_right, and_make, of_not}
 use Rattle.grammar.specs.Bytes.{Bytes, name_byte, all_of}
 use Rattle.grammar.specs.Lines.{span, run, is_name}
 use Rattle.grammar.proofs.Words.{name_bytes_lem}
@@ -37,24 +39,6 @@ unfolding span nonzero same_bytes pick
 same_end [] = refl
 same_end (x ∷ r) = either (eqb x 0) (λ e. rw (e, eqb-suc-zero)) (λ e. rw (e, eqb-suc-zero))
 
--- the bytes of a name are none of them zero
-all_at : (fold : ℕ → ℕ) (s : Bytes) (i : ℕ) → all_of (name_byte fold) s ≡ true → i < length s → fold (get_or s i 0) ≡ 0 → ⊥
-unfolding all_of name_byte
-all_at fold [] i h l e = omega arith
-all_at fold (b ∷ s) zero h l e =
-    clash (eq-eqb (fold b) 0 e) (of_not (eqb (fold b) 0) (and_left (not (eqb (fold b) 0)) (all_of (name_byte fold) s) h))
-all_at fold (b ∷ s) (suc i) h l e = all_at fold s i (and_right (not (eqb (fold b) 0)) (all_of (name_byte fold) s) h) (omega arith) e
-
--- a folded name is as long
-pub folded_length : (fold : ℕ → ℕ) (s : Bytes) → length (map fold s) ≡ length s
-folded_length fold s = length-map s fold
-
--- its byte i
-folded_at : (fold : ℕ → ℕ) (s : Bytes) (i : ℕ) → i < length s → get_or (map fold s) i 0 ≡ fold (get_or s i 0)
-folded_at fold [] i l = absurd (omega arith)
-folded_at fold (b ∷ s) zero l = refl
-folded_at fold (b ∷ s) (suc i) l = folded_at fold s i (omega arith)
-
 -- a name has at most 32 bytes
 pub name_fits : (fold : ℕ → ℕ) (s : Bytes) → is_name fold s ≡ true → length s ≤ name_bytes
 unfolding is_name
@@ -72,79 +56,65 @@ all_folded fold (b ∷ s) h =
 
 -- so a folded name is fit for the name area
 pub word_fine : (fold : ℕ → ℕ) (s : Bytes) → is_name fold s ≡ true → Fine (map fold s)
-word_fine fold s h = (omega (arith, folded_length fold s, name_fits fold s h), all_folded fold s (name_bytes_lem fold s h))
+word_fine fold s h = (omega (arith, length-map s fold, name_fits fold s h), all_folded fold s (name_bytes_lem fold s h))
 
--- a row against a folded name w: what is left past the first i bytes
-unfoldable pub left : Bytes → Bytes → ℕ → Bool
-left row w i = same_bytes (run nonzero (drop i row)) (drop i w)
+-- a row begins with the folded bytes s
+abbrev agrees : (ℕ → ℕ) → Bytes → Bytes → Bool
+agrees fold s row = list_all (λ p. eqb p.1 (fold p.0)) (zip s (take (length s) row))
 
-module _ (fold : ℕ → ℕ) (s row : Bytes) (h : is_name fold s ≡ true) (size : length row ≡ name_bytes) where
-  -- the name
-  abbrev w : Bytes
-  w = map fold s
+module _ (fold : ℕ → ℕ) where
+  -- no byte of a name's folds to zero
+  first_some : (b : ℕ) (s : Bytes) → all_of (name_byte fold) (b ∷ s) ≡ true → fold b ≡ 0 → ⊥
+  unfolding all_of name_byte
+  first_some b s h e =
+      clash (eq-eqb (fold b) 0 e) (of_not (eqb (fold b) 0) (and_left (not (eqb (fold b) 0)) (all_of (name_byte fold) s) h))
 
-  -- one byte of each
-  left_step : (i : ℕ) → i < length s → left row w i ≡ eqb (get_or row i 0) (fold (get_or s i 0)) && left row w (suc i)
-  unfolding left
-  left_step i l =
-      let m : length s ≤ name_bytes = name_fits fold s h in
-      let e : get_or w i 0 ≡ fold (get_or s i 0) = folded_at fold s i l in
-      ap₂ (λ (x y : Bytes). same_bytes (run nonzero x) y) (drop-cons row i 0 (omega arith)) (drop-cons w i 0 (omega (arith, folded_length fold s)))
-      ∙ same_step (get_or row i 0) (get_or w i 0) (drop (suc i) row) (drop (suc i) w) (λ z. all_at fold s i (name_bytes_lem fold s h) l (sym e ∙ z))
-      ∙ ap (λ (y : ℕ). eqb (get_or row i 0) y && left row w (suc i)) e
+  rest_some : (b : ℕ) (s : Bytes) → all_of (name_byte fold) (b ∷ s) ≡ true → all_of (name_byte fold) s ≡ true
+  unfolding all_of
+  rest_some b s h = and_right (name_byte fold b) (all_of (name_byte fold) s) h
 
-  -- before the first byte all is left
-  pub fills_none : same_bytes (run nonzero row) w ≡ left row w 0
-  unfolding left
-  fills_none = refl
+  -- a row as long as the bytes is they where it begins with them
+  whole : (s row : Bytes) → all_of (name_byte fold) s ≡ true → length s ≡ length row
+      → same_bytes (run nonzero row) (map fold s) ≡ agrees fold s row
+  whole [] [] h l = same_end []
+  whole [] (x ∷ row) h l = absurd (omega arith)
+  whole (b ∷ s) [] h l = absurd (omega arith)
+  whole (b ∷ s) (x ∷ row) h l =
+      same_step x (fold b) row (map fold s) (first_some b s h)
+      ∙ ap (λ (r : Bool). eqb x (fold b) && r) (whole s row (rest_some b s h) (omega arith))
 
-  -- an equal byte
-  pub fills_on : (i x : ℕ) → i < length s → x ≡ fold (get_or s i 0) → get_or row i 0 ≡ x
-      → same_bytes (run nonzero row) w ≡ left row w i → same_bytes (run nonzero row) w ≡ left row w (i + 1)
-  fills_on i x l f e q =
-      q ∙ left_step i l ∙ ap (λ (b : Bool). b && left row w (suc i)) (eq-eqb _ _ (e ∙ f)) ∙ ap (left row w) (sym (add-one i))
+  -- a longer one, where a zero follows
+  padded_lem : (s row : Bytes) → all_of (name_byte fold) s ≡ true → length s < length row
+      → same_bytes (run nonzero row) (map fold s) ≡ agrees fold s row && eqb (get_or row (length s) 0) 0
+  padded_lem s [] h l = absurd (omega arith)
+  padded_lem [] (x ∷ row) h l = same_end (x ∷ row) ∙ rw eqb-suc-zero refl
+  padded_lem (b ∷ s) (x ∷ row) h l =
+      same_step x (fold b) row (map fold s) (first_some b s h)
+      ∙ ap (λ (r : Bool). eqb x (fold b) && r) (padded_lem s row (rest_some b s h) (omega arith))
+      ∙ sym (and_assoc (eqb x (fold b)) (agrees fold s row) (eqb (get_or row (length s) 0) 0))
 
-  -- another byte
-  pub fills_off : (i x : ℕ) → i < length s → x ≡ fold (get_or s i 0) → (get_or row i 0 ≡ x → ⊥)
-      → same_bytes (run nonzero row) w ≡ left row w i → false ≡ same_bytes (run nonzero row) w
-  fills_off i x l f e q =
-      sym (q ∙ left_step i l ∙ ap (λ (b : Bool). b && left row w (suc i)) (ne_eqb _ _ (λ g. e (g ∙ sym f))))
-
-  -- past the last
-  fills_end : (i : ℕ) → i ≤ length s → length s ≤ i → same_bytes (run nonzero row) w ≡ left row w i
-      → eqb (length s) name_bytes || eqb (get_or row (length s) 0) 0 ≡ same_bytes (run nonzero row) w
-  unfolding left
-  fills_end i l m q =
-      let e : i ≡ length s = omega arith in
-      let f : drop (length s) w ≡ [] = drop_of_length-le w {i = length s} (omega (arith, folded_length fold s)) in
-      sym (q ∙ ap (left row w) e ∙ ap (same_bytes (run nonzero (drop (length s) row))) f ∙ same_end (drop (length s) row) ∙ finish)
-    where
-      finish : eqb (length (drop (length s) row)) 0 || eqb (get_or (drop (length s) row) 0 0) 0 ≡ eqb (length s) name_bytes || eqb (get_or row (length s) 0) 0
-      finish =
-          let k : length (drop (length s) row) ≡ length row - length s = length-drop (length s) row in
-          let fits : length s ≤ name_bytes = name_fits fold s h in
-          let z : get_or (drop (length s) row) 0 0 ≡ get_or row (length s) 0 =
-          get_or-drop (length s) row 0 0 ∙ ap (λ (n : ℕ). get_or row n 0) (add-zero (length s)) in
-          either (eqb (length s) name_bytes)
-          (λ t.
-          let g : length s ≡ name_bytes = eqb-true (length s) name_bytes t in
-          rw (t, eq-eqb (length (drop (length s) row)) 0 (omega arith)))
-          (λ t.
-          let g : length s ≡ name_bytes → ⊥ = eqb-false (length s) name_bytes t in
-          rw (t, ne_eqb (length (drop (length s) row)) 0 (λ (z : length (drop (length s) row) ≡ 0). omega arith), z))
-
+module _ (fold : ℕ → ℕ) (s row : Bytes) (h : is_name fold s ≡ true) (size : length row ≡ name_bytes) (r : Bool) (e : r ≡ agrees fold s row) where
   -- a name of 32 bytes
-  pub fills_full : (i : ℕ) → i ≤ length s → length s ≤ i → same_bytes (run nonzero row) w ≡ left row w i
-      → length s ≡ name_bytes → eqb (length s) name_bytes ≡ same_bytes (run nonzero row) w
-  fills_full i l m q e =
-      let t : eqb (length s) name_bytes ≡ true = eq-eqb (length s) name_bytes e in
-      t ∙ sym (or_left (eqb (get_or row (length s) 0) 0) t) ∙ fills_end i l m q
+  pub fills_full : r ≡ true → length s ≡ name_bytes → eqb (length s) name_bytes ≡ same_bytes (run nonzero row) (map fold s)
+  fills_full t l =
+      eq-eqb (length s) name_bytes l ∙ sym (whole fold s row (name_bytes_lem fold s h) (omega arith) ∙ sym e ∙ t)
 
   -- a shorter one
-  pub fills_less : (i : ℕ) → i ≤ length s → length s ≤ i → same_bytes (run nonzero row) w ≡ left row w i
-      → (length s ≡ name_bytes → ⊥) → eqb (get_or row (length s) 0) 0 ≡ same_bytes (run nonzero row) w
-  fills_less i l m q e =
-      sym (ap (λ (b : Bool). b || eqb (get_or row (length s) 0) 0) (ne_eqb (length s) name_bytes e)) ∙ fills_end i l m q
+  pub fills_less : r ≡ true → (length s ≡ name_bytes → ⊥) → eqb (get_or row (length s) 0) 0 ≡ same_bytes (run nonzero row) (map fold s)
+  fills_less t l =
+      let m : length s ≤ name_bytes = name_fits fold s h in
+      sym (padded_lem fold s row (name_bytes_lem fold s h) (omega arith) ∙ ap (λ (b : Bool). b && eqb (get_or row (length s) 0) 0) (sym e ∙ t))
+
+  -- a row that begins otherwise
+  pub fills_off : r ≡ false → r ≡ same_bytes (run nonzero row) (map fold s)
+  fills_off f =
+      let m : length s ≤ name_bytes = name_fits fold s h in
+      let n : all_of (name_byte fold) s ≡ true = name_bytes_lem fold s h in
+      either (eqb (length s) name_bytes)
+      (λ t. let l : length s ≡ name_bytes = eqb-true (length s) name_bytes t in e ∙ sym (whole fold s row n (omega arith)))
+      (λ t.
+      let l : length s ≡ name_bytes → ⊥ = eqb-false (length s) name_bytes t in
+      f ∙ sym (padded_lem fold s row n (omega arith) ∙ ap (λ (b : Bool). b && eqb (get_or row (length s) 0) 0) (sym e ∙ f)))
 
 -- a row that takes the first i bytes of a folded name, and is clear past them
 unfoldable pub written : Bytes → ℕ → Bytes
@@ -162,10 +132,10 @@ module _ (fold : ℕ → ℕ) (s : Bytes) (h : is_name fold s ≡ true) where
   unfolding written
   write_on row i x l e p =
       let m : length s ≤ name_bytes = name_fits fold s h in
-      let n : length (map fold s) ≡ length s = folded_length fold s in
+      let n : length (map fold s) ≡ length s = length-map s fold in
       let k : length (take i (map fold s)) ≡ i = length-take-le i (map fold s) (omega arith) in
       let z : name_bytes - i ≡ suc (name_bytes - (i + 1)) = omega arith in
-      let q : x ≡ get_or (map fold s) i 0 = e ∙ sym (folded_at fold s i l) in
+      let q : x ≡ get_or (map fold s) i 0 = e ∙ sym (get_or-map fold s i 0 0 l) in
       let front : Bytes = take i (map fold s) in
       let rest : Bytes = replicate (name_bytes - (i + 1)) 0 in
       ap (λ (r : Bytes). set r i x) (p ∙ ap (λ (j : ℕ). front ++ replicate j 0) z)
@@ -178,11 +148,11 @@ module _ (fold : ℕ → ℕ) (s : Bytes) (h : is_name fold s ≡ true) where
 pub write_all : (fold : ℕ → ℕ) (s row w : Bytes) (i : ℕ) → w ≡ map fold s → i ≤ length s → length s ≤ i → row ≡ written w i → row ≡ padded w
 unfolding written padded
 write_all fold s row w i q l m p =
-    let n : length w ≡ length s = ap length q ∙ folded_length fold s in
+    let n : length w ≡ length s = ap length q ∙ length-map s fold in
     let e : i ≡ length w = omega arith in
     p ∙ ap₂ (λ (xs : Bytes) (k : ℕ). xs ++ replicate (name_bytes - k) 0) (take_all i w (omega arith)) e
 
 -- what proves that a row is compared, and that it is written
-pub ruleset compares = (name_fits, fills_none, fills_on, fills_off, fills_full, fills_less)
+pub ruleset compares = (name_fits, fills_off, fills_full, fills_less)
 
 pub ruleset writes = (name_fits, write_none, write_on, write_all)

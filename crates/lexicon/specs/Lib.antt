@@ -1,3 +1,4 @@
 pub mod Index
 pub mod Place
 pub mod Held
+pub mod Same

@@ -12,6 +12,15 @@ fn name_len(row: &[u8]) -> usize
     row.iter().take_while(|b| **b != 0).count()
 }
 
+// Those bytes.
+#[tactic(auto, using(crate::proofs::LookUp::name_front))]
+pub fn name_in(row: &[u8]) -> &[u8]
+    ensures bytes { result.now ≡ take_while (λ b. not (b == 0)) row.now }
+    ensures place { (result.ref_ptr.0 ≡ row.entry.ref_ptr.0) × (result.ref_ptr.1 ≡ row.entry.ref_ptr.1) }
+{
+    &row[..name_len(row)]
+}
+
 // The name of that number, as the part of the name area itself, without padding; the empty part where there is none.
 #[tactic(auto, using(crate::proofs::LookUp::looks))]
 pub fn look_up(spellings: &[u8], n: usize, a: usize) -> &[u8]
@@ -20,9 +29,9 @@ pub fn look_up(spellings: &[u8], n: usize, a: usize) -> &[u8]
         × (result.ref_ptr.1 ≡ spellings.entry.ref_ptr.1 + look_up_at spellings.now n a) }
 {
     if a < n && n <= Book::NAMES && Book::NAME_AREA <= spellings.len() {
+        // Cut by hand: `nth` does not say where a row lies, which for rows of any type goes by the type's size.
         let at = Book::name_at(a);
-        let row = &spellings[at..at + Book::NAME_BYTES];
-        &row[..name_len(row)]
+        name_in(&spellings[at..at + Book::NAME_BYTES])
     } else {
         &spellings[..0]
     }

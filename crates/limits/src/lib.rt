@@ -55,6 +55,8 @@ impl Book {
         ensures rows { Book.ROW_AREA ≡ row_area }
     {}
 
+    // These three differ in a number and a limit. One over the width would ask of each caller that its product fits, which here the limit says.
+
     // The first byte of name i in the name area.
     pub fn name_at(i: usize) -> usize
         requires { i ≤ names }
@@ -92,6 +94,13 @@ impl Book {
     {
         a % Book::WORD_BITS
     }
+}
+
+// How many names and rules a book has.
+#[derive(Clone, Copy, Debug, PartialEq, Eq)]
+pub struct Counts {
+    pub names: usize,
+    pub rules: usize,
 }
 
 // Why a call refuses. Documents 01 and 02 give each cause its number.
@@ -143,7 +152,7 @@ impl Refusal {
     }
 }
 
-// A refusal with the line that it is for, 0 where it is for none.
+// A refusal with the line that it is for, 0 where it is for none, as document 01 prints it: an Option would become that 0 again in each host.
 #[derive(Clone, Copy, Debug, PartialEq, Eq)]
 pub struct Refused {
     pub cause: Refusal,

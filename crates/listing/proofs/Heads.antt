@@ -7,9 +7,9 @@ use native.Mathlib.Omega.{arith}
 use lib.ListN.{length, length-append}
 use Rattle.grammar.specs.Bytes.{Bytes, bytes, line_end}
 use Rattle.solving.specs.Listing.{decimal, head_line}
-use Rattle.listing.specs.Text.{Puts}
-use Rattle.listing.specs.declared.text.Text.{Text}
-use Rattle.listing.proofs.Texts.{puts_on}
+use Rattle.copying.specs.Text.{Puts}
+use Rattle.copying.specs.declared.text.Text.{Text}
+use Rattle.copying.proofs.Texts.{puts_on}
 
 -- four fields and an end
 fields : (a n b h c f d r e : Bytes)

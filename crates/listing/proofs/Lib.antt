@@ -2,4 +2,4 @@ pub mod Heads
 pub mod Held
 pub mod Lines
 pub mod Whole
-pub mod Texts
+pub mod Numbers

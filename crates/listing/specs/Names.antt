@@ -9,7 +9,7 @@ use Rattle.listing.specs.declared.names.Names.{Names}
 
 -- the names
 abbrev pub spelt : Names → List Bytes
-spelt x = names_in x.spellings.now x.n
+spelt x = names_in x.names.area x.names.count
 
 -- the numbers held, those of helpers with them
 abbrev pub held : Names → Set

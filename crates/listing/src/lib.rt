@@ -8,11 +8,11 @@ ghost use Rattle.listing.specs.Write.{listing_of};
 
 pub mod head;
 pub mod names;
-pub mod text;
+pub mod number;
 
+use copying::text::Text;
 use limits::Book;
 use names::Names;
-use text::Text;
 
 // How many names are held, and where the text ends.
 #[derive(Clone, Copy)]
@@ -29,7 +29,7 @@ pub fn write(book: &Names<'_>, folds: usize, rounds: usize, listing: &mut [u8]) 
 {
     let held = book.count_held();
     let mut text = Text::new(listing);
-    head::put_head(&mut text, book.n, held, folds, rounds);
+    head::put_head(&mut text, book.names.name_count(), held, folds, rounds);
     book.put(&mut text);
     let end = text.end();
     rows::clear::clear(listing, end, Book::LISTING_BYTES);

@@ -8,10 +8,11 @@ use native.Mathlib.Nat.{le_antisymm}
 use native.Mathlib.Numerals.{add-one}
 use native.Mathlib.Omega.{arith}
 use lib.ListN.{length, get_or}
+use Rattle.std.specs.Int.{from_bool}
 use Rattle.limits.specs.Book as Book
 use Rattle.limits.specs.Book.{atoms, rules, word_bits, row_words, body_words}
 use Rattle.sets.specs.Set.{Set, pick, exists, count, only, union}
-use Rattle.sets.proofs.Logic.{pick_true, pick_false}
+use Rattle.sets.proofs.Logic.{either, pick_true, pick_false}
 use Rattle.sets.proofs.Counting.{count_in, count_out, count_le}
 use Rattle.areas.specs.Area.{part}
 use Rattle.areas.proofs.Parts.{part_whole}
@@ -121,9 +122,10 @@ module _ {tables : RuleTables} {counts : Counts} {marked : List ℕ} {o : RowAre
     in_size : j < size p
     in_size = omega (arith, size_in tables counts)
 
-    -- c so far is small
-    pub c_small : c < rules
-    c_small = omega (arith, inv.counted, count_le j (has_body p), few_rules)
+    -- c is small, this rule counted or not
+    pub c_small : {k : ℕ} (b : Bool) → k ≡ from_bool b → c + k ≤ rules
+    c_small true e = omega (arith, inv.counted, count_le j (has_body p), few_rules)
+    c_small false e = omega (arith, inv.counted, count_le j (has_body p), few_rules)
 
     -- its head is a name
     pub head_small : get_or heads j 0 < n
@@ -139,26 +141,25 @@ module _ {tables : RuleTables} {counts : Counts} {marked : List ℕ} {o : RowAre
         ∙ row_rule tables counts ready.formed marked ready.marks j l
 
     -- of the head that was read
-    module _ {head : ℕ} {b : Bool} (read : head ≡ get_or heads j 0) (found : b ≡ row marked head) where
-      test : b ≡ row marked (get_or heads j 0)
-      test = found ∙ ap (row marked) read
+    module _ {head : ℕ} (read : head ≡ get_or heads j 0) where
+      test : row marked head ≡ several p j
+      test = ap (row marked) read ∙ several_test
 
       -- the helper is an atom
-      pub helper_small : b ≡ true → helper < atoms
+      pub helper_small : row marked head ≡ true → helper < atoms
       helper_small t =
-          let h : Standard.helper p j < (standard p).atoms = helper_below p j in_size (sym several_test ∙ sym test ∙ t) in
-          omega (arith, ready.few, inv.next)
+          let h : Standard.helper p j < (standard p).atoms = helper_below p j in_size (sym test ∙ t) in omega (arith, ready.few, inv.next)
 
       module _ {home helper' : ℕ} {any' : List ℕ} where
         -- it joins the row of the head
-        pub with_helper : {new : List ℕ} → b ≡ true → new ≡ with_row head (union (row_in row_words any head) (only helper)) any
-            → any' ≡ new → helper' ≡ helper + 1 → home ≡ helper → Housed p j home helper' any₀ any'
-        with_helper t q a' h' d =
-            let s : several p j ≡ true = sym several_test ∙ sym test ∙ t in
+        with_helper : row marked head ≡ true → home ≡ helper → helper' ≡ helper + 1
+            → any' ≡ with_row head (union (row_in row_words any head) (only helper)) any → Housed p j home helper' any₀ any'
+        with_helper t d h' a' =
+            let s : several p j ≡ true = sym test ∙ t in
             let h : head_at p j ≡ get_or heads j 0 = head_in tables counts j l in
             let rows : any' ≡ with_rows p (any_up_to p (suc j)) any₀ =
             rows_joined p ready.few any₀ any (any_up_to p j) inv.any_rows (get_or heads j 0) helper any' (any_up_to p (suc j)) head_atom
-            (a' ∙ q ∙ ap (λ (k : ℕ). with_row k (union (row_in row_words any k) (only helper)) any) read)
+            (a' ∙ ap (λ (k : ℕ). with_row k (union (row_in row_words any k) (only helper)) any) read)
             (λ a. subst (λ (x : ℕ). any_up_to p (suc j) x a ≡ union (any_up_to p j x) (only helper) a) h
             (any_head_lem p j s a ∙ ap (λ (x : ℕ). union (any_up_to p j (head_at p j)) (only x) a) (sym inv.next)))
             (λ k d a. any_other p j k (λ r. d (sym h ∙ r)) a)
@@ -170,75 +171,89 @@ module _ {tables : RuleTables} {counts : Counts} {marked : List ℕ} {o : RowAre
             }
 
         -- without one the head is the home
-        pub without_helper : b ≡ false → any' ≡ any → helper' ≡ helper → home ≡ head → Housed p j home helper' any₀ any'
-        without_helper t a' h' d =
-            let s : several p j ≡ false = sym several_test ∙ sym test ∙ t in record {
+        without_helper : row marked head ≡ false → home ≡ head → helper' ≡ helper → any' ≡ any → Housed p j home helper' any₀ any'
+        without_helper t d h' a' =
+            let s : several p j ≡ false = sym test ∙ t in record {
               here = d ∙ read ∙ sym (home_single p j s ∙ head_in tables counts j l);
               next = h' ∙ inv.next ∙ sym (helper_same p j s);
               any_long = ap length a' ∙ inv.any_long;
               any_rows = rows_kept p ready.few any₀ any' (any_up_to p j) (a' ∙ inv.any_rows) (any_up_to p (suc j)) (any_same p j s);
             }
 
-    module _ {home helper' : ℕ} {any' : List ℕ} (housed : Housed p j home helper' any₀ any') where
-      -- the home is an atom
-      pub home_small : home < atoms
-      home_small = let h : Standard.home p j < (standard p).atoms = home_below p formed j in_size in omega (arith, ready.few, housed.here)
+      -- where it is housed
+      module _ {home helper' : ℕ} {any' : List ℕ} (here : home ≡ pick (row marked head) helper head)
+          (next : helper' ≡ pick (row marked head) (helper + 1) helper)
+          (joins : any' ≡ pick (row marked head) (with_row head (union (row_in row_words any head) (only helper)) any) any) where
+        at_home : Housed p j home helper' any₀ any'
+        at_home =
+            either (row marked head)
+            (λ t. with_helper t (here ∙ pick_true _ _ t) (next ∙ pick_true _ _ t) (joins ∙ pick_true _ _ t))
+            (λ t. without_helper t (here ∙ pick_false _ _ t) (next ∙ pick_false _ _ t) (joins ∙ pick_false _ _ t))
 
-      -- of the body that was read
-      module _ {body : List ℕ} {b : Bool} (read : body ≡ part (j * body_words) body_words bodies)
-          (found : b ≡ exists (body_words * word_bits) (row body)) {all' model' : List ℕ}
-          (put_in : all' ≡ pick b (with_row home (row body) all) all)
-          (joined : model' ≡ pick b model (with_model (union (model_in model) (only home)) model)) where
-        filled_test : b ≡ exists (body_words * word_bits) (row_in body_words bodies j)
-        filled_test = found ∙ ap (λ (ws : List ℕ). exists (body_words * word_bits) (row ws)) read
+        -- the home is an atom
+        pub home_small : home < atoms
+        home_small = let h : Standard.home p j < (standard p).atoms = home_below p formed j in_size in omega (arith, ready.few, at_home.here)
 
-        written : all' ≡ pick b (with_row home (row_in body_words bodies j) all) all
-        written = put_in ∙ ap (λ (ws : List ℕ). pick b (with_row home (row ws) all) all) read
+        -- of the body that was read
+        module _ {body : List ℕ} {b : Bool} (words : body ≡ part (j * body_words) body_words bodies)
+            (found : b ≡ exists (body_words * word_bits) (row body)) {all' model' : List ℕ}
+            (put_in : all' ≡ pick b (with_row home (row body) all) all)
+            (joined : model' ≡ pick b model (with_model (union (model_in model) (only home)) model)) where
+          filled_test : b ≡ exists (body_words * word_bits) (row_in body_words bodies j)
+          filled_test = found ∙ ap (λ (ws : List ℕ). exists (body_words * word_bits) (row ws)) words
 
-        body_test : b ≡ has_body p j
-        unfolding has_body
-        body_test =
-            filled_test
-            ∙ exists_fewer (body_words * word_bits) n (row_in body_words bodies j) few_names (formed_entry_lem tables counts ready.formed j l).1
-            ∙ ap (exists n) (sym (body_in tables counts j l))
+          written : all' ≡ pick b (with_row home (row_in body_words bodies j) all) all
+          written = put_in ∙ ap (λ (ws : List ℕ). pick b (with_row home (row ws) all) all) words
 
-        -- the areas past rule j
-        placed_next : {c' : ℕ} → c' ≡ count (suc j) (has_body p) → all' ≡ with_rows p (all_up_to p (suc j)) all₀
-            → model' ≡ with_model (start_up_to p (suc j)) model₀ → Placed p (j + 1) helper' c' all₀ any₀ model₀ all' any' model'
-        placed_next {c'} counted rows set =
-            subst (λ (k : ℕ). Placed p k helper' c' all₀ any₀ model₀ all' any' model') (sym (add-one j))
-            (record {
-              in_rules = in_size;
-              next = housed.next;
-              counted = counted;
-              all_long = rows_long p ready.few all₀ all' (all_up_to p (suc j)) rows ready.long.1.0;
-              any_long = housed.any_long;
-              model_long = ap length set ∙ length_model (start_up_to p (suc j)) model₀ ready.long.1.2;
-              all_rows = rows;
-              any_rows = housed.any_rows;
-              start = set;
-            })
+          body_test : b ≡ has_body p j
+          unfolding has_body
+          body_test =
+              filled_test
+              ∙ exists_fewer (body_words * word_bits) n (row_in body_words bodies j) few_names (formed_entry_lem tables counts ready.formed j l).1
+              ∙ ap (exists n) (sym (body_in tables counts j l))
 
-        -- a rule with a body, placed
-        pub placed_body : {c' : ℕ} → b ≡ true → c' ≡ c + 1 → Placed p (j + 1) helper' c' all₀ any₀ model₀ all' any' model'
-        placed_body t d =
-            let h : has_body p j ≡ true = sym body_test ∙ t in
-            placed_next (d ∙ omega (arith, inv.counted, count_in j (has_body p) h))
-            (rows_changed p ready.few all₀ all (all_up_to p j) inv.all_rows (Standard.home p j) (row_in body_words bodies j) all'
-            (all_up_to p (suc j)) (home_below p formed j in_size)
-            (written ∙ pick_true _ _ t ∙ ap (λ (i : ℕ). with_row i (row_in body_words bodies j) all) housed.here)
-            (λ a d. all_home p formed j in_size h a ∙ ap (λ (f : Set). f a) (body_in tables counts j l)) (all_other p j))
-            (start_kept_lem (start_up_to p j) (start_up_to p (suc j)) model₀ model' (joined ∙ pick_true _ _ t ∙ inv.start) (start_same p j h))
+          -- the areas past rule j
+          placed_next : {c' : ℕ} → c' ≡ count (suc j) (has_body p) → all' ≡ with_rows p (all_up_to p (suc j)) all₀
+              → model' ≡ with_model (start_up_to p (suc j)) model₀ → Placed p (j + 1) helper' c' all₀ any₀ model₀ all' any' model'
+          placed_next {c'} counted rows set =
+              subst (λ (k : ℕ). Placed p k helper' c' all₀ any₀ model₀ all' any' model') (sym (add-one j))
+              (record {
+                in_rules = in_size;
+                next = at_home.next;
+                counted = counted;
+                all_long = rows_long p ready.few all₀ all' (all_up_to p (suc j)) rows ready.long.1.0;
+                any_long = at_home.any_long;
+                model_long = ap length set ∙ length_model (start_up_to p (suc j)) model₀ ready.long.1.2;
+                all_rows = rows;
+                any_rows = at_home.any_rows;
+                start = set;
+              })
 
-        -- a rule without one
-        pub placed_fact : {c' : ℕ} → b ≡ false → c' ≡ c → Placed p (j + 1) helper' c' all₀ any₀ model₀ all' any' model'
-        placed_fact t d =
-            let h : has_body p j ≡ false = sym body_test ∙ t in
-            placed_next (d ∙ inv.counted ∙ sym (count_out j (has_body p) h))
-            (rows_kept p ready.few all₀ all' (all_up_to p j) (written ∙ pick_false _ _ t ∙ inv.all_rows) (all_up_to p (suc j))
-            (all_same p formed j in_size h))
-            (start_joined (start_up_to p j) (start_up_to p (suc j)) (Standard.home p j) model₀ model model' inv.start
-            (joined ∙ pick_false _ _ t ∙ ap (λ (i : ℕ). with_model (union (model_in model) (only i)) model) housed.here) (start_home p j h))
+          -- a rule with a body, placed
+          placed_body : {c' : ℕ} → b ≡ true → c' ≡ c + 1 → Placed p (j + 1) helper' c' all₀ any₀ model₀ all' any' model'
+          placed_body t d =
+              let h : has_body p j ≡ true = sym body_test ∙ t in
+              placed_next (d ∙ omega (arith, inv.counted, count_in j (has_body p) h))
+              (rows_changed p ready.few all₀ all (all_up_to p j) inv.all_rows (Standard.home p j) (row_in body_words bodies j) all'
+              (all_up_to p (suc j)) (home_below p formed j in_size)
+              (written ∙ pick_true _ _ t ∙ ap (λ (i : ℕ). with_row i (row_in body_words bodies j) all) at_home.here)
+              (λ a d. all_home p formed j in_size h a ∙ ap (λ (f : Set). f a) (body_in tables counts j l)) (all_other p j))
+              (start_kept_lem (start_up_to p j) (start_up_to p (suc j)) model₀ model' (joined ∙ pick_true _ _ t ∙ inv.start) (start_same p j h))
+
+          -- a rule without one
+          placed_fact : {c' : ℕ} → b ≡ false → c' ≡ c → Placed p (j + 1) helper' c' all₀ any₀ model₀ all' any' model'
+          placed_fact t d =
+              let h : has_body p j ≡ false = sym body_test ∙ t in
+              placed_next (d ∙ inv.counted ∙ sym (count_out j (has_body p) h))
+              (rows_kept p ready.few all₀ all' (all_up_to p j) (written ∙ pick_false _ _ t ∙ inv.all_rows) (all_up_to p (suc j))
+              (all_same p formed j in_size h))
+              (start_joined (start_up_to p j) (start_up_to p (suc j)) (Standard.home p j) model₀ model model' inv.start
+              (joined ∙ pick_false _ _ t ∙ ap (λ (i : ℕ). with_model (union (model_in model) (only i)) model) at_home.here) (start_home p j h))
+
+          pub rule_placed : {c' : ℕ} → c' ≡ c + from_bool b → Placed p (j + 1) helper' c' all₀ any₀ model₀ all' any' model'
+          rule_placed d =
+              either b (λ t. placed_body t (d ∙ ap (λ (x : Bool). c + from_bool x) t))
+              (λ t. placed_fact t (d ∙ ap (λ (x : Bool). c + from_bool x) t ∙ omega arith))
 
   -- after the last rule
   module _ {j helper c : ℕ} {all any model : List ℕ} (inv : Placed p j helper c all₀ any₀ model₀ all any model) (l : m ≤ j) where

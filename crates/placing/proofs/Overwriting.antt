@@ -114,6 +114,9 @@ any_clear k u old mid l e p =
     let n : length (replicate {A = ℕ} u 0) ≡ u = length-replicate u 0 in
     tail_clear row_area u (replicate u 0) old mid (sym n) (omega arith) (front_cleared u old mid p)
 
+-- the areas before any rule
+pub ruleset beginning = (all_begun, any_begun)
+
 -- Areas with the rows of a program's atoms.
 
 module _ (p : Program) (few : (standard p).atoms ≤ atoms) (old area : List ℕ) (rows : ℕ → Set) (e : area ≡ with_rows p rows old) where

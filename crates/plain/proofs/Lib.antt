@@ -1,4 +1,4 @@
 pub mod Stepping
 pub mod Consequences
-pub mod Turns
+pub mod Rising
 pub mod Calls

@@ -1,7 +1,7 @@
 -- The whole call: its refusals, and what the lines and the clearing leave.
 -- Assumes nothing.
 use mathlib.Core.Path.{◌≡◌, refl, sym, ap, ap₂, ◌∙◌, subst}
-use mathlib.Core.Bool.{Bool, true}
+use mathlib.Core.Bool.{Bool, true, false}
 use mathlib.Core.List.{List, [], ◌++◌, map}
 use Prim.Native.Nat.{ℕ, ◌-◌, ◌*◌, ◌≤◌, ◌<◌}
 use native.Mathlib.Omega.{arith}
@@ -9,18 +9,20 @@ use lib.Dec.{eqb}
 use lib.ListN.{length, take, drop, replicate, length-map}
 use borrow.Author.Tests.{eqb-true, eqb-false, eq-eqb, ne_eqb}
 use Rattle.std.specs.Prelude.{Result, Ok, Err}
-use Rattle.std.specs.Result.{IsErr, IsErrAnd}
+use Rattle.std.specs.Result.{IsErr, IsErrAnd, result_unwrap_or}
 use Rattle.limits.specs.Refusal.{number_of, refused_number, refused_line, count_in}
 use Rattle.limits.specs.declared.Refusal.{Refusal}
-use Rattle.limits.specs.declared.Refusal.TheVariants.{ShortArea, LongText, Mark, LastByte, Line, Names, Rules, Atoms, Folds, IllFormed, StartLost}
-use Rattle.limits.specs.declared.Refusal.TheVariants.{LongWritten, LongName, BarredByte, ReservedByte, UnsettledEntry}
+use Rattle.limits.specs.declared.Refusal.TheVariants.{ShortArea, LongText}
 use Rattle.limits.specs.declared.Refused.{Refused}
+use Rattle.limits.specs.declared.Counts.{Counts}
+use Rattle.limits.proofs.Numbers.{number_some}
 use Rattle.limits.specs.Book.{text_bytes, names, name_bytes, rules, name_area, body_words, body_area}
 use Rattle.sets.proofs.Logic.{either, pick_true, pick_false}
 use Rattle.program.specs.Program.{Rule}
 use Rattle.grammar.specs.Bytes.{Bytes, letters}
 use Rattle.grammar.specs.Grammar.{Clause}
-use Rattle.grammar.specs.Letters.{FoldTable, letters_cause}
+use Rattle.grammar.specs.Letters.{letters_cause}
+use Rattle.scan.proofs.Tables.{short_first, table_next}
 use Rattle.scan.specs.Hash.{buckets}
 use Rattle.tables.specs.Numbering.{names_of, numbered}
 use Rattle.tables.specs.Reading.{Reading, refused, marked, ended, book_of, reading}
@@ -34,7 +36,6 @@ use Rattle.tables.proofs.Encoding.{length_name_rows, long_enough}
 use Rattle.tables.proofs.Calls.{read_pass}
 use Rattle.lexicon.proofs.Entering.{indexed_none}
 use Rattle.clause.specs.Found.{lexicon_of, Named}
-use Rattle.reader.specs.declared.Counts.{Counts}
 use Rattle.reader.specs.Short.{short_read}
 use Rattle.reader.specs.State.{Tables, tables_at, Booked, Stayed, Lined, all_lines}
 
@@ -61,25 +62,6 @@ unfolding refusal
 refusal_none k old = ap (λ (a : Areas). record { answer = record { number = k; line = 0; names = 0; rules = 0 }; areas = a })
     (pick_true old (filled_with [] [] old) refl)
 
--- every cause has a number
-pub number_some : (cause : Refusal) → number_of cause ≡ 0 → ⊥
-number_some ShortArea e = omega arith
-number_some LongText e = omega arith
-number_some Mark e = omega arith
-number_some LastByte e = omega arith
-number_some Line e = omega arith
-number_some Names e = omega arith
-number_some Rules e = omega arith
-number_some Atoms e = omega arith
-number_some Folds e = omega arith
-number_some IllFormed e = omega arith
-number_some StartLost e = omega arith
-number_some LongWritten e = omega arith
-number_some LongName e = omega arith
-number_some BarredByte e = omega arith
-number_some ReservedByte e = omega arith
-number_some UnsettledEntry e = omega arith
-
 -- a refusal before any line, where the text comes to that
 pub refuses : (area : Bytes) (heads bodies : List ℕ) (cause : Refusal) (r : Refused) → r ≡ record { cause = cause; line = 0 }
     → (x : Reading) → x ≡ refused (number_of cause) 0 → gives (Err r) area heads bodies ≡ outcome x (lent area heads bodies)
@@ -88,9 +70,9 @@ refuses area heads bodies cause r e x q =
     ap (λ (r : Refused). gives (Err r) area heads bodies) e ∙ sym (refusal_none (number_of cause) (lent area heads bodies))
     ∙ sym (ap (λ (y : Reading). outcome y (lent area heads bodies)) q)
 
--- The call: an area is too short or the table is refused, the text is too long, or it is read. The cause k is judged by the lengths.
-module _ (table t area : Bytes) (heads bodies : List ℕ) (low : Bool) (p : low ≡ short_read (length area) (length heads) (length bodies))
-    (k : ℕ) (q : k ≡ letters_cause low table) where
+-- The call: an area is too short, or the table is refused, or the text is too long, or it is read. The cause k is judged of the lengths and then of
+-- the table.
+module _ (table t area : Bytes) (heads bodies : List ℕ) where
   abbrev was : Areas
   was = lent area heads bodies
 
@@ -98,48 +80,57 @@ module _ (table t area : Bytes) (heads bodies : List ℕ) (low : Bool) (p : low 
   abbrev due : ℕ
   due = letters_cause (short was) table
 
-  judged : k ≡ due
-  unfolding short short_read
-  judged = q ∙ ap (λ (b : Bool). letters_cause b table) p
-
-  pub call_cause : (cause : Refusal) (r : Refused) → r ≡ record { cause = cause; line = 0 } → k ≡ number_of cause
+  -- a refusal for what is judged
+  first_cause : (k : ℕ) → k ≡ due → (cause : Refusal) (r : Refused) → r ≡ record { cause = cause; line = 0 } → k ≡ number_of cause
       → gives (Err r) area heads bodies ≡ read_call table t was
   unfolding read_call
-  call_cause cause r e some =
+  first_cause k judged cause r e some =
       ap (λ (r : Refused). gives (Err r) area heads bodies) e ∙ sym (refusal_none (number_of cause) was)
       ∙ ap (λ (i : ℕ). refusal i 0 was) (sym some ∙ judged)
       ∙ sym (pick_false (outcome (reading (letters table) t) was) (refusal due 0 was)
       (ne_eqb due 0 (λ z. number_some cause (sym some ∙ judged ∙ z))))
 
-  -- as a call hands it on
-  pub call_refused : (cause : Refusal) (r : Result Counts Refused) → IsErr r × IsErrAnd r (λ e. e ≡ record { cause = cause; line = 0 })
-      → k ≡ number_of cause → gives r area heads bodies ≡ read_call table t was
-  call_refused cause (Ok n) e some = absurd e.1
-  call_refused cause (Err r) e some = call_cause cause r e.1 some
+  -- an area is too short
+  pub call_short : (low : Bool) → low ≡ short_read (length area) (length heads) (length bodies) → low ≡ true
+      → (r : Refused) → r ≡ record { cause = ShortArea; line = 0 } → gives (Err r) area heads bodies ≡ read_call table t was
+  unfolding short short_read
+  call_short low p e r q = first_cause 1 (short_first low table e ∙ ap (λ (b : Bool). letters_cause b table) p) ShortArea r q refl
 
-  module _ (z : k ≡ 0) where
-    -- the areas are long enough and the table passes
-    pub call_ready : (name_area ≤ length area) × (rules ≤ length heads) × (body_area ≤ length bodies) × FoldTable table
-    call_ready =
-        let ready = (read_pass table was).0 (sym judged ∙ z) in
-        let long = long_enough was ready.0 in
-        (long.0, long.1, long.2, ready.1)
+  module _ (low : Bool) (p : low ≡ short_read (length area) (length heads) (length bodies)) (long : low ≡ false)
+      (k : ℕ) (q : k ≡ letters_cause false table) where
+    judged : k ≡ due
+    unfolding short short_read
+    judged = table_next low table k long q ∙ ap (λ (b : Bool). letters_cause b table) p
 
-    call_is : read_call table t was ≡ outcome (reading (letters table) t) was
-    unfolding read_call
-    call_is = pick_true (outcome (reading (letters table) t) was) (refusal due 0 was) (eq-eqb due 0 (sym judged ∙ z))
+    -- the table is refused, as a call hands it on
+    pub call_refused : (cause : Refusal) (r : Result Counts Refused) → IsErr r × IsErrAnd r (λ e. e ≡ record { cause = cause; line = 0 })
+        → k ≡ number_of cause → gives r area heads bodies ≡ read_call table t was
+    call_refused cause (Ok n) e some = absurd e.1
+    call_refused cause (Err r) e some = first_cause k judged cause r e.1 some
 
-    pub call_long : (r : Refused) → r ≡ record { cause = LongText; line = 0 } → text_bytes < length t
-        → gives (Err r) area heads bodies ≡ read_call table t was
-    call_long r e l =
-        refuses area heads bodies LongText r e (reading (letters table) t) (reading_long (letters table) t l) ∙ sym call_is
+    module _ (z : k ≡ 0) where
+      -- the areas are long enough and the table passes
+      pub call_ready : (name_area ≤ length area) × (rules ≤ length heads) × (body_area ≤ length bodies)
+      call_ready =
+          let ready = (read_pass table was).0 (sym judged ∙ z) in
+          let all = long_enough was ready.0 in
+          (all.0, all.1, all.2)
 
-    pub call_read : length t ≤ text_bytes → (by : Bytes) → by ≡ table → (o : Outcome) → o ≡ outcome (book_of (letters by) t) was
-        → o ≡ read_call table t was
-    call_read size by j o e =
-        e ∙ ap (λ (x : Bytes). outcome (book_of (letters x) t) was) j
-        ∙ ap (λ (x : Reading). outcome x was) (sym (reading_short (letters table) t size))
-        ∙ sym call_is
+      call_is : read_call table t was ≡ outcome (reading (letters table) t) was
+      unfolding read_call
+      call_is = pick_true (outcome (reading (letters table) t) was) (refusal due 0 was) (eq-eqb due 0 (sym judged ∙ z))
+
+      pub call_long : (r : Refused) → r ≡ record { cause = LongText; line = 0 } → text_bytes < length t
+          → gives (Err r) area heads bodies ≡ read_call table t was
+      call_long r e l =
+          refuses area heads bodies LongText r e (reading (letters table) t) (reading_long (letters table) t l) ∙ sym call_is
+
+      pub call_read : length t ≤ text_bytes → (by : Bytes) → by ≡ table → (o : Outcome) → o ≡ outcome (book_of (letters by) t) was
+          → o ≡ read_call table t was
+      call_read size by j o e =
+          e ∙ ap (λ (x : Bytes). outcome (book_of (letters x) t) was) j
+          ∙ ap (λ (x : Reading). outcome x was) (sym (reading_short (letters table) t size))
+          ∙ sym call_is
 
 -- no clauses yet
 no_rows : name_rows [] ≡ []
@@ -263,13 +254,20 @@ module _ (fold : ℕ → ℕ) (t : Bytes) (number line : ℕ) (y : Tables) (l : 
         ∙ ap (given number line 0 0) (after_refused r.2 r.3 ∙ sym (pick_false old (filled_with [] [] old) (ne_eqb line 0 d)))
         ∙ sym (ap (λ (v : Reading). outcome v old) r.0)
 
-    -- as the text comes to it
-    pub called : marked t ≡ true → ended t ≡ true → (area : Bytes) (heads bodies : List ℕ)
-        → (area ≡ cleared (n * name_bytes) name_area y.lexicon.area)
-        × ((heads ≡ cleared m rules y.heads) × (bodies ≡ cleared (m * body_words) body_area y.bodies))
+    -- as the text comes to it, where i names and j rules are in use
+    pub called : marked t ≡ true → ended t ≡ true → (i j : ℕ) → i ≡ n → j ≡ m → (area : Bytes) (heads bodies : List ℕ)
+        → area ≡ cleared (i * name_bytes) name_area y.lexicon.area
+        → heads ≡ cleared j rules y.heads → bodies ≡ cleared (j * body_words) body_area y.bodies
         → given number line n m (lent area heads bodies) ≡ outcome (book_of fold t) old
-    called mk en area heads bodies e =
+    called mk en i j p q area heads bodies a h b =
         ap (given number line n m)
-        (ap₂ (lent area) e.1.0 e.1.1
-        ∙ ap (λ (a : Bytes). lent a (cleared m rules y.heads) (cleared (m * body_words) body_area y.bodies)) e.0)
+        (ap₂ (lent area) (h ∙ ap (λ (k : ℕ). cleared k rules y.heads) q) (b ∙ ap (λ (k : ℕ). cleared (k * body_words) body_area y.bodies) q)
+        ∙ ap (λ (e : Bytes). lent e (cleared m rules y.heads) (cleared (m * body_words) body_area y.bodies))
+        (a ∙ ap (λ (k : ℕ). cleared (k * name_bytes) name_area y.lexicon.area) p))
         ∙ by_number with_book with_refusal ∙ sym (ap (λ (v : Reading). outcome v old) (book_lines fold t mk en))
+
+-- what is in use of a book that is read, and of one that is refused
+pub used_counts : (r : Result Counts Refused) (u : Counts) → u ≡ result_unwrap_or r (record { names = 0; rules = 0 })
+    → (u.names ≡ count_in (λ (n : Counts). n.names) r) × (u.rules ≡ count_in (λ (n : Counts). n.rules) r)
+used_counts (Ok n) u e = (ap (λ (c : Counts). c.names) e, ap (λ (c : Counts). c.rules) e)
+used_counts (Err q) u e = (ap (λ (c : Counts). c.names) e, ap (λ (c : Counts). c.rules) e)

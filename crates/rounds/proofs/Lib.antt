@@ -1,3 +1,4 @@
+pub mod Loop
 pub mod Stepping
-pub mod Turns
+pub mod Rising
 pub mod Calls

@@ -6,7 +6,7 @@ use mathlib.Core.List.{List}
 use Prim.Native.Nat.{ℕ, ◌+◌, ◌*◌, ◌≤◌, ◌<◌}
 use native.Mathlib.Omega.{arith}
 use lib.Dec.{eqb, ltb}
-use lib.ListN.{length, take, replicate}
+use lib.ListN.{length, replicate}
 use borrow.Author.Tests.{not-false, lt-ltb, le-ltb, ltb-true, ltb-false, eqb-true, eqb-false}
 use Rattle.limits.specs.Book.{atoms, word_bits, row_words, row_area}
 use Rattle.sets.specs.Set.{Set, exists, within, meets, only, union, empty_set}
@@ -17,11 +17,10 @@ use Rattle.words.specs.Row.{row, pack}
 use Rattle.words.proofs.Rows.{length_pack, row_pack, pack_same, pack_empty}
 use Rattle.program.specs.System.{any_head, all_step, round}
 use Rattle.systems.specs.Rows.{below}
-use Rattle.systems.specs.Rounds.{model_in}
-use Rattle.rounds.specs.Step.{next_set}
+use Rattle.rounds.specs.Step.{set_after}
 
 -- atom i, whose rows lie in areas of their stated size
-module _ (all any v : List ℕ) (i : ℕ) (l : i < atoms) where
+module _ (all any : List ℕ) (v : Set) (i : ℕ) (l : i < atoms) where
   row_long : (area : List ℕ) → row_area ≤ length area → length (part (i * row_words) row_words area) ≡ row_words
   row_long area h = length_part (i * row_words) row_words area (omega arith)
 
@@ -33,19 +32,19 @@ module _ (all any v : List ℕ) (i : ℕ) (l : i < atoms) where
 
   -- where its "any" row is empty, the "all" row decides
   pub joins_all : row_area ≤ length all → row_area ≤ length any → not (exists (length any_row * word_bits) (row any_row)) ≡ true
-      → next_set all any v i ≡ within (length all_row * word_bits) (row all_row) (row (take row_words v))
-  unfolding next_set round any_head all_step
+      → set_after all any v i ≡ within (length all_row * word_bits) (row all_row) v
+  unfolding set_after round any_head all_step
   joins_all p q g =
       pick_false _ _ (ap (λ (k : ℕ). exists (k * word_bits) (row any_row)) (sym (row_long any q)) ∙ of_not _ g)
-      ∙ ap (λ (k : ℕ). within (k * word_bits) (row all_row) (model_in v)) (sym (row_long all p))
+      ∙ ap (λ (k : ℕ). within (k * word_bits) (row all_row) v) (sym (row_long all p))
 
   -- else the "any" row does
   pub joins_any : row_area ≤ length any → not (exists (length any_row * word_bits) (row any_row)) ≡ false
-      → next_set all any v i ≡ meets (length any_row * word_bits) (row any_row) (row (take row_words v))
-  unfolding next_set round any_head
+      → set_after all any v i ≡ meets (length any_row * word_bits) (row any_row) v
+  unfolding set_after round any_head
   joins_any q g =
       pick_true _ _ (ap (λ (k : ℕ). exists (k * word_bits) (row any_row)) (sym (row_long any q)) ∙ not-false _ g)
-      ∙ ap (λ (k : ℕ). meets (k * word_bits) (row any_row) (model_in v)) (sym (row_long any q))
+      ∙ ap (λ (k : ℕ). meets (k * word_bits) (row any_row) v) (sym (row_long any q))
 
 -- the laws of `joins`
 pub ruleset joining = (joins_all, joins_any)
@@ -60,12 +59,12 @@ one_more i k n =
     past l = either (ltb i k) (λ t. omega (arith, ltb-true i k t)) (λ t. absurd (n (omega (arith, ltb-false i k t))))
 
 -- the words of the set after v, with the atoms below i in
-pub gathered : List ℕ → List ℕ → List ℕ → ℕ → List ℕ
-gathered all any v i = pack row_words (below i (next_set all any v))
+pub gathered : List ℕ → List ℕ → Set → ℕ → List ℕ
+gathered all any v i = pack row_words (below i (set_after all any v))
 
-module _ (all any v : List ℕ) where
+module _ (all any : List ℕ) (v : Set) where
   abbrev f : Set
-  f = next_set all any v
+  f = set_after all any v
 
   -- no atom yet
   pub gathered_none : gathered all any v 0 ≡ replicate row_words 0

@@ -1,20 +1,34 @@
 // The public call that makes the rounds over rows, from a start set, and its work without the tests.
 #![tactic(auto)]
 
-ghost use Rattle.std.specs.Prelude.{◌≡◌, true, ◌<◌, ◌≤◌, length, IfOk, IfErr};
+ghost use Rattle.std.specs.Prelude.{◌≡◌, true, ◌<◌, ◌≤◌, length, take, IfOk, IfErr};
 ghost use Rattle.limits.specs.Book.{atoms, row_words};
 ghost use Rattle.limits.specs.Refusal.{number_of, number_in, count_in};
-ghost use Rattle.words.specs.Row.{pack};
-ghost use Rattle.systems.specs.Rows.{below};
-ghost use Rattle.program.specs.System.{rounds_of, held_by};
-ghost use Rattle.systems.specs.Rounds.{with_model, system_in, formed_system, rounds_call};
+ghost use Rattle.words.specs.Row.{row, pack};
+ghost use Rattle.systems.specs.Rounds.{formed_system, rounds_call};
 ghost use Rattle.systems.specs.Claims.{RoundsLong};
 ghost use Rattle.rounds.specs.Rows.{with_start};
-ghost use Rattle.rounds.specs.Step.{next_set, RoundsReady};
+ghost use Rattle.rounds.specs.Step.{set_after};
+
+pub mod turns;
 
 use limits::{Book, Refusal};
+use rowcheck::rows_short;
 use rows::row;
 use std::marker::Model;
+use turns::{Round, until_still};
+
+// The set in a model area.
+#[tactic(auto, using(crate::proofs::Rising::front_words))]
+fn front(model: &[u64]) -> [u64; Book::ROW_WORDS]
+    requires { row_words ≤ length model.now }
+    ensures front { result ≡ take row_words model.now }
+    ensures words { result ≡ pack row_words (row result) }
+{
+    let mut set = [0; Book::ROW_WORDS];
+    set.copy_from_slice(&model[..Book::ROW_WORDS]);
+    set
+}
 
 // Rows of their stated size, and how many of them count.
 #[derive(Drop)]
@@ -52,15 +66,12 @@ impl<'a> System<'a> {
         ensures err { IfErr result (λ e. record { number = number_of e; rounds = 0; model = model.now }
             ≡ rounds_call (record { all = all.now; any = any.now; model = model.now }) count) }
     {
-        if all.len() < Book::ROW_AREA
-            || any.len() < Book::ROW_AREA
-            || model.len() < Book::ROW_WORDS
-        {
+        if rows_short(all.len(), any.len(), model.len()) {
             return Err(Refusal::ShortArea);
         }
         let formed = rowcheck::formed(all, count)
             && rowcheck::formed(any, count)
-            && Book::ATOMS <= row::next(&model[..Book::ROW_WORDS], count);
+            && row::ends(&model[..Book::ROW_WORDS], count);
         if !formed {
             return Err(Refusal::IllFormed);
         }
@@ -69,48 +80,15 @@ impl<'a> System<'a> {
 
     // Whether atom i is in the set after v: an "any" row that is not empty has to meet v, else the "all" row to lie within it.
     #[tactic(auto, using(crate::proofs::Stepping::joining))]
-    fn joins(&self, v: &[u64], i: usize) -> bool
-        requires { (i < atoms) × (row_words ≤ length v.now) }
-        ensures { result ≡ next_set self.now.all self.now.any v.now i }
+    fn joins(&self, v: &[u64; Book::ROW_WORDS], i: usize) -> bool
+        requires { i < atoms }
+        ensures { result ≡ set_after self.now.all self.now.any (row v.now) i }
     {
-        let at = Book::row_at(i);
-        let v = &v[..Book::ROW_WORDS];
-        let any = &self.any[at..at + Book::ROW_WORDS];
+        let any = row::nth(self.any, i, Book::ROW_WORDS);
         if row::empty(any) {
-            return row::within(&self.all[at..at + Book::ROW_WORDS], v);
+            return row::within(row::nth(self.all, i, Book::ROW_WORDS), v);
         }
         row::meets(any, v)
-    }
-
-    // One round over the counted atoms: the set after v.
-    #[tactic(auto, using(crate::proofs::Stepping::stepping_on))]
-    fn step(&self, v: &[u64]) -> [u64; Book::ROW_WORDS]
-        requires { row_words ≤ length v.now }
-        ensures { result ≡ pack row_words (below self.now.count (next_set self.now.all self.now.any v.now)) }
-    {
-        let mut next = [0; Book::ROW_WORDS];
-        for i in 0..self.count {
-            if self.joins(v, i) {
-                row::insert(&mut next, i);
-            }
-        }
-        next
-    }
-
-    // The rounds from the model area on, `next` being the set after it: counted up to and with the first that changes nothing.
-    fn until_still(&self, model: &mut [u64], mut next: [u64; Book::ROW_WORDS]) -> usize
-        requires { RoundsReady (with_start self.now model.old) next self.now.count }
-        ensures rounds { result ≡ rounds_of (system_in (with_start self.now model.old) self.now.count) }
-        ensures model { model.new
-            ≡ with_model (below self.now.count (held_by (system_in (with_start self.now model.old) self.now.count))) model.old }
-    {
-        let mut made = 1;
-        while !row::equal(&model[..Book::ROW_WORDS], &next) {
-            model[..Book::ROW_WORDS].copy_from_slice(&next);
-            next = self.step(model);
-            made += 1;
-        }
-        made
     }
 
     // The rounds from the start set in the model area, which then has the last set; a lost start atom leaves it as it was.
@@ -120,16 +98,43 @@ impl<'a> System<'a> {
         ensures { record { number = number_in result; rounds = count_in (λ r. r) result; model = model.new }
             ≡ rounds_call (with_start self.now model.old) self.now.count }
     {
-        let next = self.step(model);
-        if !row::within(&model[..Book::ROW_WORDS], &next) {
+        let start = front(model);
+        let next = self.step(&start);
+        if !row::within(&start, &next) {
             return Err(Refusal::StartLost);
         }
-        Ok(self.until_still(model, next))
+        let reached = until_still(self, start, next);
+        model[..Book::ROW_WORDS].copy_from_slice(&reached.set);
+        Ok(reached.rounds)
+    }
+}
+
+// A round over the counted atoms.
+impl<'a> Round for System<'a> {
+    ghost use Rattle.systems.specs.Rows.{below};
+    ghost use Rattle.rounds.specs.Step.{set_after};
+
+    ghost atoms = { λ s. s.count };
+
+    ghost after = { λ s v. below s.count (set_after s.all s.any v) };
+
+    // It stays behind a call: with its code in the loop of rounds the sets lie in registers, and its rows are looked at word by word.
+    #[tactic(auto, using(crate::proofs::Stepping::stepping_on))]
+    #[inline(never)]
+    fn step(&self, v: &[u64; Book::ROW_WORDS]) -> [u64; Book::ROW_WORDS] {
+        let mut next = [0; Book::ROW_WORDS];
+        for i in 0..self.count {
+            if self.joins(v, i) {
+                row::insert(&mut next, i);
+            }
+        }
+        next
     }
 }
 
 // Makes the rounds over the counted atoms, from the start set in the model area, and leaves the last set there; a lost start atom leaves it
-// as it was. For a caller that knows rows and start set to be in order, as after standardising: they are not judged again.
+// as it was. For a caller that knows rows and start set to be in order, as after standardising: they are not judged again. The areas are lent one by
+// one, here and in `run`, as the steps before have them: a struct of them would be made for the one call.
 #[tactic(auto, using(crate::proofs::Calls::system_few))]
 pub fn run_formed(
     all: &[u64],

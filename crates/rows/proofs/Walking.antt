@@ -74,6 +74,9 @@ module _ (ws : List ℕ) (p : Known ws) (k b i : ℕ) (ek : k ≡ i / word_bits)
             let e : j ≡ i + (j - i) = omega arith in
             ap f e ∙ rest_bit (j - i) (omega (arith, here)) ∙ first.0 (j - i) (omega arith) (omega arith)
 
+    pub found_within : i + t < length ws * word_bits
+    found_within = omega (arith, here)
+
     pub found_fits : length ws * word_bits < 2 ^ 64 → Fits w64 (i + t)
     found_fits r = record { fits = omega (arith, here) }
 

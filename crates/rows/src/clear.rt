@@ -12,7 +12,8 @@ pub fn clear<T: Entry>(area: &mut [T], from: usize, to: usize)
     area[from..to].fill(T::ZERO);
 }
 
-// The same, where the part is not known to be zero already.
+// The same; `fresh` says that the part is zero already, which is a fact about the area that the caller knows and hands on. A closure or a type
+// parameter in its place would stand in the same signatures, with the same condition in more words.
 pub fn clear_stale<T: Entry>(area: &mut [T], from: usize, to: usize, fresh: bool)
     requires { (from ≤ to) × (to ≤ length area.old) × (fresh ≡ true → cleared_to T.ZERO from to area.old ≡ area.old) }
     ensures { area.new ≡ cleared_to T.ZERO from to area.old }

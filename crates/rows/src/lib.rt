@@ -2,4 +2,5 @@
 #![tactic(auto)]
 
 pub mod clear;
+pub mod members;
 pub mod row;

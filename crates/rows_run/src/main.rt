@@ -4,7 +4,7 @@
 ghost use Rattle.std.specs.Prelude.{◌*◌, ◌^◌, ◌<◌, length};
 ghost use Rattle.limits.specs.Book.{word_bits};
 
-use limits::Book;
+use rows::members::Members;
 use rows::row;
 use std::fmt::Display;
 use std::io;
@@ -29,11 +29,8 @@ fn answers<W: Write>(out: &mut W, answers: &[bool]) -> io::Result<()> {
 fn show<W: Write>(out: &mut W, words: &[u64]) -> io::Result<()>
     requires { length words.now * word_bits < 2 ^ 32 }
 {
-    let end = words.len() * Book::WORD_BITS;
-    let mut a = row::next(words, 0);
-    while a < end {
+    for a in Members::of(words, 0) {
         writeln!(out, "{a}")?;
-        a = row::next(words, a + 1);
     }
     Ok(())
 }

@@ -2,11 +2,11 @@
 -- Assumes nothing.
 use mathlib.Core.Path.{◌≡◌, refl, sym, ap, ◌∙◌}
 use mathlib.Core.Bool.{Bool, true}
-use mathlib.Core.List.{List}
+use mathlib.Core.List.{List, []}
 use Prim.Native.Nat.{ℕ, suc, ◌+◌, ◌-◌, ◌≤◌, ◌<◌}
 use native.Mathlib.Omega.{arith}
 use lib.Dec.{eqb}
-use lib.ListN.{length, set, length-set}
+use lib.ListN.{length, set, length-set, replicate}
 use borrow.Author.Tests.{eqb-true}
 use Rattle.std.specs.Char.{to_ascii_lowercase}
 use Rattle.limits.specs.Book.{letter_bytes}
@@ -14,6 +14,7 @@ use Rattle.sets.specs.Set.{pick, every}
 use Rattle.sets.proofs.Tests.{every_at}
 use Rattle.areas.specs.Area.{put, begun, cleared}
 use Rattle.areas.proofs.Parts.{put_none, put_set}
+use Rattle.areas.proofs.Begun.{begun_whole}
 use Rattle.grammar.specs.Bytes.{small, our_letters}
 use Rattle.grammar.specs.Letters.{entries_from, our_table}
 
@@ -109,16 +110,21 @@ module _ {first last more : ℕ} (old : List ℕ) where
       let e : suc last - b ≡ 0 = omega (arith, r.low.1) in
       put_none b table ∙ sym (ap (λ (k : ℕ). put b (entries_from (λ a. a + more) k b) table) e) ∙ r.rest
 
+  -- the last byte of the range
+  pub ranging_last : (table : List ℕ) (b : ℕ) → Ranging first last more old table b → b ≡ last → last < length old
+      → set table b (b + more) ≡ ranged first last more old
+  ranging_last table b r e m = ranging_all (set table b (b + more)) (b + 1) (ranging_more table b r (omega arith) m) (omega arith)
+
 -- The ranges of document 01, one after another into zeros, are our table: computed over all of its entries.
 pub ranges_ours : (old : List ℕ)
     → ranged 95 95 0 (ranged 45 46 0 (ranged 48 57 0 (ranged 97 122 0 (ranged 65 90 32 (cleared 0 letter_bytes old))))) ≡ begun our_table old
 unfolding begun our_table entries_from our_letters small pick
 ranges_ours old = refl
 
--- So an area that is cleared and filled in this order is begun with it.
-pub laid : (old : List ℕ) {zeros capitals letters digits signs all : List ℕ} → zeros ≡ cleared 0 letter_bytes old
+-- So zeros that are filled in this order are our table.
+pub laid : {zeros capitals letters digits signs all : List ℕ} → zeros ≡ replicate letter_bytes 0
     → capitals ≡ ranged 65 90 32 zeros → letters ≡ ranged 97 122 0 capitals → digits ≡ ranged 48 57 0 letters → signs ≡ ranged 45 46 0 digits
-    → all ≡ ranged 95 95 0 signs → all ≡ begun our_table old
-laid old a b c d e f =
+    → all ≡ ranged 95 95 0 signs → all ≡ our_table
+laid a b c d e f =
     f ∙ ap (ranged 95 95 0) (e ∙ ap (ranged 45 46 0) (d ∙ ap (ranged 48 57 0) (c ∙ ap (ranged 97 122 0) (b ∙ ap (ranged 65 90 32) a))))
-    ∙ ranges_ours old
+    ∙ ranges_ours [] ∙ begun_whole our_table [] (omega arith)

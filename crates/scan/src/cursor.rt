@@ -1,5 +1,5 @@
 // The reader's place and line number, by value: each method takes the cursor and returns it moved on, or what stands at it.
-ghost use Rattle.std.specs.Prelude.{◌≡◌, ◌+◌, ◌<◌, length, drop};
+ghost use Rattle.std.specs.Prelude.{◌≡◌, ℕ, Bool, ◌+◌, ◌<◌, length, drop};
 ghost use Rattle.limits.specs.Book.{text_bytes};
 ghost use Rattle.grammar.specs.Bytes.{space, line_end, colon, hash, blank, not_end, name_byte, letters};
 ghost use Rattle.grammar.specs.Grammar.{mark};
@@ -31,6 +31,22 @@ impl Word {
     // What the hash is reduced by at each byte, where every step waits for the one before: 2 to the 32, half a usize, so that a step
     // more fits and reducing costs next to nothing. A multiple of BUCKETS, so that the bucket, taken once at the end, is the same.
     const HASHES: usize = 4294967296;
+}
+
+// Whether a byte is a blank: a space or a tab.
+#[tactic(auto, unfolding(grammar::specs::Bytes::blank))]
+fn is_blank(b: u8) -> bool
+    ensures { result ≡ blank b }
+{
+    b == Cursor::SPACE || b == Cursor::TAB
+}
+
+// Whether a byte is within a line: any but its end.
+#[tactic(auto, unfolding(grammar::specs::Bytes::not_end))]
+fn in_line(b: u8) -> bool
+    ensures { result ≡ not_end b }
+{
+    b != Cursor::LINE_END
 }
 
 impl Cursor {
@@ -85,35 +101,32 @@ impl Cursor {
         }
     }
 
-    // What is left of the text from the cursor on: nothing where it stands past the end.
-    fn rest(self, text: &[u8]) -> &[u8]
-        ensures { result.now ≡ drop self.at text.now }
+    // Past the bytes that stay. A loop, for medians within 3 % of before: by a chain, short names took 11 % more instructions, and remarks 3.7 %.
+    fn past<F: Fn(u8) -> bool>(self, text: &[u8], stays: F) -> Cursor
+        requires callable { F.IsAlwaysCallable stays }
+        ensures { (p : ℕ → Bool) → ((b : ℕ) (r : Bool) → F.post stays b r → r ≡ p b)
+            → result ≡ record { at = past_at p text.now self.at; line = self.line } }
     {
-        text.get(self.at..).unwrap_or(&[])
+        for at in self.at..text.len() {
+            if !stays(text[at]) {
+                return self.moved(at);
+            }
+        }
+        self.moved(self.at.max(text.len()))
     }
 
     // Past the blanks at the cursor.
     pub fn past_blanks(self, text: &[u8]) -> Cursor
         ensures { result ≡ record { at = past_at blank text.now self.at; line = self.line } }
     {
-        let blanks = self
-            .rest(text)
-            .iter()
-            .take_while(|&&b| b == Cursor::SPACE || b == Cursor::TAB)
-            .count();
-        self.moved(self.at + blanks)
+        self.past(text, is_blank)
     }
 
     // At the end of the cursor's line.
     pub fn past_line(self, text: &[u8]) -> Cursor
         ensures { result ≡ record { at = past_at not_end text.now self.at; line = self.line } }
     {
-        let more = self
-            .rest(text)
-            .iter()
-            .take_while(|&&b| b != Cursor::LINE_END)
-            .count();
-        self.moved(self.at + more)
+        self.past(text, in_line)
     }
 
     // On the next line, past the line end at the cursor.
@@ -134,7 +147,7 @@ impl Cursor {
         text.get(self.at) == Some(&b)
     }
 
-    // The run of name bytes at the cursor.
+    // The run of name bytes at the cursor. A loop for the same reason: by a chain, a walk over words of one byte took 19 % more instructions.
     pub fn word(self, text: &[u8], folding: &Letters<'_>) -> Word
         ensures begins { result.at ≡ self.at }
         ensures ends { result.end ≡ past_at (name_byte (letters folding.now)) text.now self.at }
@@ -148,7 +161,7 @@ impl Cursor {
             if ends {
                 break;
             }
-            hash = (hash * 31 + b as usize) % Word::HASHES;
+            hash = (hash * 31 + usize::from(b)) % Word::HASHES;
             end = i + 1;
         }
         Word {

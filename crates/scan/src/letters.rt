@@ -1,6 +1,5 @@
 // The letters of a lent table that passes: an entry for each byte value, 0 for a byte that no name has, else the byte that it counts as.
-ghost use Rattle.std.specs.Prelude.{◌≡◌, ◌≤◌, length, IfOk};
-ghost use Rattle.limits.specs.Book.{letter_bytes};
+ghost use Rattle.std.specs.Prelude.{◌≡◌, false, IfOk};
 ghost use Rattle.limits.specs.Refusal.{number_in};
 ghost use Rattle.grammar.specs.Bytes.{letters};
 ghost use Rattle.grammar.specs.Letters.{FoldTable, any_reserved, any_unsettled, letters_cause};
@@ -12,21 +11,19 @@ use std::marker::Model;
 const RESERVED: [u8; 9] = [0, b'\t', b'\n', b'\r', b' ', b'!', b'#', b':', b'@'];
 
 // Whether a reserved byte has an entry.
-fn any_reserved(table: &[u8]) -> bool
-    requires { letter_bytes ≤ length table.now }
+fn any_reserved(table: &[u8; Book::LETTER_BYTES]) -> bool
     ensures { result ≡ any_reserved table.now }
 {
-    RESERVED.iter().any(|&b| table[b as usize] != 0)
+    RESERVED.iter().any(|&b| table[usize::from(b)] != 0)
 }
 
 // Whether an entry, not zero, is not its own.
-fn any_unsettled(table: &[u8]) -> bool
-    requires { letter_bytes ≤ length table.now }
+fn any_unsettled(table: &[u8; Book::LETTER_BYTES]) -> bool
     ensures { result ≡ any_unsettled table.now }
 {
-    table[..Book::LETTER_BYTES]
+    table
         .iter()
-        .any(|&entry| entry != 0 && table[entry as usize] != entry)
+        .any(|&entry| entry != 0 && table[usize::from(entry)] != entry)
 }
 
 #[derive(Drop)]
@@ -54,17 +51,17 @@ impl<'a> Letters<'a> {
         Letters { table }
     }
 
-    // What a call that is lent a table judges first. `short` is whether another area that it is lent is too short.
+    // What is judged of a lent table. A call that is lent other areas too asks first whether one of them is too short.
     #[tactic(auto, using(crate::proofs::Tables::cause_short, crate::proofs::Tables::cause_reserved, crate::proofs::Tables::cause_unsettled, crate::proofs::Tables::cause_none, crate::proofs::Tables::table_passes))]
-    pub fn judge(short: bool, table: &'a [u8]) -> Result<Letters<'a>, Refusal>
-        ensures number { number_in result ≡ letters_cause short table.now }
+    pub fn judge(table: &'a [u8]) -> Result<Letters<'a>, Refusal>
+        ensures number { number_in result ≡ letters_cause false table.now }
         ensures letters { IfOk result (λ it. it ≡ table.now) }
     {
-        if short || table.len() < Book::LETTER_BYTES {
+        let Some(entries) = table.first_chunk() else {
             return Err(Refusal::ShortArea);
-        }
-        let reserved = any_reserved(table);
-        let unsettled = any_unsettled(table);
+        };
+        let reserved = any_reserved(entries);
+        let unsettled = any_unsettled(entries);
         if reserved {
             return Err(Refusal::ReservedByte);
         }
@@ -81,11 +78,11 @@ impl<'a> Letters<'a> {
         let _table = self.table;
     }
 
-    // The letter of byte b.
+    // The letter of byte b. 0 stands for none, as in document 01's table and in the definition of its letters.
     #[tactic(auto, using(crate::proofs::Tables::at_byte))]
     pub fn fold(&self, b: u8) -> u8
         ensures { result ≡ letters self.now b }
     {
-        self.table[b as usize]
+        self.table[usize::from(b)]
     }
 }

@@ -1,15 +1,13 @@
 // Document 01's folding table, worked out from ranges: one entry for each byte value, 0 for a byte that no name has, else the byte that it
 // counts as.
-ghost use Rattle.std.specs.Prelude.{◌≡◌, suc, ◌+◌, ◌-◌, ◌≤◌, ◌<◌, length};
-ghost use Rattle.limits.specs.Book.{letter_bytes};
+ghost use Rattle.std.specs.Prelude.{◌≡◌, suc, ◌+◌, ◌-◌, ◌≤◌, ◌<◌};
 ghost use Rattle.limits.specs.Refusal.{number_in};
-ghost use Rattle.areas.specs.Area.{put, begun};
+ghost use Rattle.areas.specs.Area.{put};
 ghost use Rattle.grammar.specs.Bytes.{our_letters};
 ghost use Rattle.grammar.specs.Letters.{entries_from, our_table};
 ghost use Rattle.grammar.specs.Fill.{fill_call};
 
 use limits::{Book, Refusal};
-use rows::clear::clear;
 
 // What lies between a capital letter and its small one.
 const TO_SMALL: u8 = b'a' - b'A';
@@ -27,23 +25,22 @@ pub fn letter(b: u8) -> u8
 }
 
 // Each byte from first to last gets an entry: itself, with `more` added.
-fn fill_range(area: &mut [u8], first: u8, last: u8, more: u8)
-    requires { (first ≤ last) × (last + more < 256) × (letter_bytes ≤ length area.old) }
+fn fill_range(area: &mut [u8; Book::LETTER_BYTES], first: u8, last: u8, more: u8)
+    requires { (first ≤ last) × (last + more < 256) }
     ensures { area.new
         ≡ put first (entries_from (λ b. b + more) (suc last - first) first) area.old }
 {
     for b in first..=last {
-        area[b as usize] = b + more;
+        area[usize::from(b)] = b + more;
     }
 }
 
-// Document 01's table in an area that is long enough. It goes range by range into zeros: a call of `letter` for each byte takes many times as
+// Document 01's table in place of what stood there. It goes range by range into zeros: a call of `letter` for each byte takes many times as
 // long.
-fn put_table(area: &mut [u8])
-    requires { letter_bytes ≤ length area.old }
-    ensures { area.new ≡ begun our_table area.old }
+fn put_table(area: &mut [u8; Book::LETTER_BYTES])
+    ensures { area.new ≡ our_table }
 {
-    clear(area, 0, Book::LETTER_BYTES);
+    area.fill(0);
     fill_range(area, b'A', b'Z', TO_SMALL);
     fill_range(area, b'a', b'z', 0);
     fill_range(area, b'0', b'9', 0);
@@ -55,11 +52,10 @@ fn put_table(area: &mut [u8])
 pub fn fill(area: &mut [u8]) -> Result<(), Refusal>
     ensures { record { number = number_in result; area = area.new } ≡ fill_call area.old }
 {
-    let short = area.len() < Book::LETTER_BYTES;
-    if short {
+    let Some(entries) = area.first_chunk_mut() else {
         return Err(Refusal::ShortArea);
-    }
-    put_table(area);
+    };
+    put_table(entries);
     Ok(())
 }
 

@@ -1,6 +1,7 @@
 pub mod Logic
 pub mod Tests
 pub mod Every
+pub mod Below
 pub mod Counting
 pub mod Ranges
 pub mod Walk

@@ -41,6 +41,7 @@ use Rattle.solving.specs.SolveClaims.{SolveLong, SolveReady}
 use Rattle.solving.proofs.Judging.{areas_long, long_tables, solve_cause, solve_short, solve_long_text, solve_over_folds, solve_in_range}
 use Rattle.solving.proofs.Judging.{solve_refused, solve_over_atoms, solve_solved}
 use Rattle.solving.proofs.Staged.{tables_program, book_formed, book_long}
+use Rattle.tablecheck.specs.Lent.{Names as Lent}
 use Rattle.listing.specs.Write.{Listing, listing_of}
 use Rattle.solver.specs.Range.{short_solve, range_cause}
 use Rattle.solver.specs.Run.{RunAreas, RunOutcome, RowsReady, run_refusal, rows_left, run_made, run_tables}
@@ -51,9 +52,10 @@ use Rattle.solver.specs.declared.Solved.{Solved}
 use Rattle.limits.specs.Refusal.{number_of, refused_number, count_in}
 use Rattle.limits.specs.declared.Refusal.{Refusal as Cause}
 use Rattle.limits.specs.declared.Refused.{Refused}
-use Rattle.std.specs.Prelude.{Result, Ok, Err}
+use Rattle.std.specs.Prelude.{Result, Err}
 use Rattle.std.specs.Result.{IsErr, IsErrAnd}
-use Rattle.reader.proofs.Calling.{number_some}
+use Rattle.std.proofs.lemmas.Result.{err_from_is_err_and}
+use Rattle.limits.proofs.Numbers.{number_some}
 use Rattle.solver.proofs.Range.{cause_short, cause_text, cause_folds, cause_none}
 use Rattle.solver.proofs.Atoms.{over, within}
 use Rattle.solver.proofs.Listed.{listing_same}
@@ -96,8 +98,7 @@ solved_as r s l =
 
 -- a refusal that is handed on
 pub handed : {r : Refused} (x : Result Solved Refused) → IsErr x × IsErrAnd x (λ e. e ≡ r) → x ≡ Err r
-handed (Ok s) e = absurd e.1
-handed (Err q) e = ap (λ (r : Refused). Err r) e.1
+handed x e = let d = err_from_is_err_and x e.1 in d.1 ∙ ap (λ (q : Refused). Err q) d.2
 
 -- nothing is listed of it
 end_none : (cause : Cause) (y : Reading) (k : ℕ) → 0 ≡ listed_end (number_of cause) y k
@@ -336,8 +337,8 @@ module _ {table : List ℕ} {t : Bytes} {k : ℕ} {old : SolveAreas} (range : Ra
         few_rounds =
             rounds_few made.atoms (round made) made.start (round_mono made) (least_model p (numbers book.cs).formed k).rounds.start
 
-        -- the names with their set
-        pub names_long : (r.answer.names ≤ names) × (name_area ≤ length r.areas.spellings) × (row_words ≤ length s.areas.model)
+        -- the names
+        pub names_long : (name_area ≤ length r.areas.spellings) × (r.answer.names ≤ names)
         unfolding tables_of filled_with
         names_long =
             let few_names : length ns ≤ names = fits.names_fit in
@@ -345,19 +346,23 @@ module _ {table : List ℕ} {t : Bytes} {k : ℕ} {old : SolveAreas} (range : Ra
             length_name_rows ns (λ a l. (read_fine fold folding t book.cs book.reads a l).0) in
             let area : length r.areas.spellings ≡ length (filled name_area (name_rows ns) old.tables.spellings) =
             ap (λ (o : Areas). length o.spellings) tables_are in (
-              omega (arith, few_names, names_are),
               omega (
                 arith,
                 area,
                 length_filled name_area (name_rows ns) old.tables.spellings (omega (arith, used, few_names)) range.long.spellings,
                 range.long.spellings,
               ),
-              omega (
-                arith,
-                ap length model_is,
-                length_model (below (standard p).atoms (held_by made)) old.model range.long.model,
-                range.long.model,
-              ),
+              omega (arith, few_names, names_are),
+            )
+
+        -- with their set
+        pub model_long : row_words ≤ length s.areas.model
+        model_long =
+            omega (
+              arith,
+              ap length model_is,
+              length_model (below (standard p).atoms (held_by made)) old.model range.long.model,
+              range.long.model,
             )
 
         -- the listing can be written
@@ -380,11 +385,12 @@ module _ {table : List ℕ} {t : Bytes} {k : ℕ} {old : SolveAreas} (range : Ra
             ∙ names_filled ns old.tables.spellings (read_fine fold folding t book.cs book.reads)
 
         -- the listing is written, as l says: the book's
-        module _ {l : Listing}
-            (g₃ : l ≡ listing_of (names_in r.areas.spellings r.answer.names) (model_in s.areas.model) k s.rounds old.listing) where
+        module _ {w : Lent} (named : w ≡ record { area = r.areas.spellings; count = r.answer.names }) {l : Listing}
+            (g₃ : l ≡ listing_of (names_in w.area w.count) (model_in s.areas.model) k s.rounds old.listing) where
           listing_is : l ≡ listing_of ns (held_by made) k (rounds_of made) old.listing
           listing_is =
-              g₃ ∙ ap₂ (λ (xs : List Bytes) (i : ℕ). listing_of xs (model_in s.areas.model) k i old.listing) names_left rounds_are
+              g₃ ∙ ap (λ (x : Lent). listing_of (names_in x.area x.count) (model_in s.areas.model) k s.rounds old.listing) named
+              ∙ ap₂ (λ (xs : List Bytes) (i : ℕ). listing_of xs (model_in s.areas.model) k i old.listing) names_left rounds_are
               ∙ listing_same ns (model_in s.areas.model) (held_by made) k (rounds_of made) old.listing same_held
 
           -- solved

@@ -29,7 +29,7 @@ use Rattle.solving.proofs.Staged.{standard_fold, folded_run}
 use Rattle.rounds.proofs.Calls.{accepted}
 use Rattle.limits.specs.Refusal.{number_of}
 use Rattle.limits.specs.declared.Refusal.{Refusal}
-use Rattle.reader.proofs.Calling.{number_some}
+use Rattle.limits.proofs.Numbers.{number_some}
 use Rattle.solver.specs.Run.{RunAreas, RunOutcome, RunReady, RowsReady, rows_in, run_refusal, rows_left, run_made, run_tables}
 use Rattle.ways.specs.Tables.{InUse, InOrder}
 use Rattle.solver.proofs.Atoms.{over, within}

@@ -15,9 +15,11 @@ pub mod run;
 use limits::{Book, Refusal, Refused};
 use listing::names::Names;
 use scan::letters::Letters;
+use tablecheck::NameArea;
 use ways::Rules;
 
 // What a book comes to: how many names, atoms, names held and rounds there are, c and h, and where the text of the listing ends.
+// Document 01 lists these numbers one by one as the answer: what the steps count is not nested in it.
 #[derive(Clone, Copy, Debug, PartialEq, Eq)]
 pub struct Solved {
     pub names: usize,
@@ -45,16 +47,18 @@ pub struct Areas<'a> {
 impl<'a> Areas<'a> {
     ghost use Rattle.solver.specs.Lent.{lent, left, Fresh, answer_in};
 
-    // Whether an area is shorter than its stated size.
-    #[tactic(auto, unfolding(crate::specs::Range::short_solve))]
+    // Whether an area is shorter than its stated size. `rows_short` of rowcheck has three of the tests of rows, and the spare would stand apart from it.
+    #[tactic(auto, unfolding(crate::specs::Range::short_solve, reader::specs::Short::short_read))]
     fn too_short(&self) -> bool
         ensures { result ≡ short_solve (length self.now.spellings.now) (length self.now.heads.now) (length self.now.bodies.now)
             (length self.now.all.now) (length self.now.any.now) (length self.now.spare.now) (length self.now.model.now)
             (length self.now.listing.now) }
     {
-        let tables = self.spellings.len() < Book::NAME_AREA
-            || self.heads.len() < Book::RULES
-            || self.bodies.len() < Book::BODY_AREA;
+        let tables = reader::tables_short(
+            self.spellings.len(),
+            self.heads.len(),
+            self.bodies.len(),
+        );
         let rows = self.all.len() < Book::ROW_AREA
             || self.any.len() < Book::ROW_AREA
             || self.spare.len() < Book::ROW_AREA
@@ -86,6 +90,7 @@ impl<'a> Areas<'a> {
 
     // Reads the text by these letters, standardises its rules, folds the rows, makes the rounds and lists the names held.
     // Rows that the book leaves unused are not cleared where the caller knows its areas of rows to be clear (fresh).
+    // `fresh` is a fact of the areas that the caller has: a closure or a type for the clearing would need its condition too, in more words.
     pub fn solve(
         self,
         text: &[u8],
@@ -112,27 +117,27 @@ impl<'a> Areas<'a> {
             listing,
         } = self;
         let counts = reader::read_formed(text, folding, spellings, heads, bodies)?;
-        let rules = Rules::of(heads, bodies, counts.names, counts.rules);
-        let made = run::run_tables(&rules, folds, all, any, spare, model, fresh)?;
-        let names = Names {
-            spellings,
-            n: counts.names,
+        let rules = Rules::of(heads, bodies, counts);
+        let run = run::run_tables(&rules, folds, all, any, spare, model, fresh)?;
+        let book = Names {
+            names: NameArea::of(spellings, counts.names),
             model,
         };
-        let listed = listing::write(&names, folds, made.rounds, listing);
+        let listed = listing::write(&book, folds, run.rounds, listing);
         Ok(Solved {
             names: counts.names,
-            atoms: made.atoms,
+            atoms: run.made.atoms,
             held: listed.held,
-            rounds: made.rounds,
-            c: made.c,
-            h: made.h,
+            rounds: run.rounds,
+            c: run.made.c,
+            h: run.made.h,
             end: listed.end,
         })
     }
 }
 
 // The same with any table, in areas that may hold anything: areas too short and the table are judged before all else.
+// Document 01 lists the areas of this call one by one; who has them as `Areas`, and letters that were judged, calls `Areas::solve`.
 pub fn solve(
     text: &[u8],
     table: &[u8],
@@ -175,7 +180,9 @@ pub fn solve(
         model,
         listing,
     };
-    let short = areas.too_short();
-    let folding = Letters::judge(short, table)?;
+    if areas.too_short() {
+        return Err(Refusal::ShortArea.into());
+    }
+    let folding = Letters::judge(table)?;
     areas.solve(text, &folding, folds, false)
 }

@@ -7,20 +7,20 @@ ghost use Rattle.tables.specs.Areas.{program_in};
 ghost use Rattle.solver.specs.Run.{RowsReady, run_tables};
 
 use limits::Refusal;
+use standard::Standard;
 use ways::Rules;
 
-// What the rounds give: the atoms, the rounds, c and h.
+// What standardising counts, and the rounds.
 #[derive(Clone, Copy, Debug, PartialEq, Eq)]
 pub struct Run {
-    pub atoms: usize,
+    pub made: Standard,
     pub rounds: usize,
-    pub c: usize,
-    pub h: usize,
 }
 
 // Standardises the rules, folds the rows and makes the rounds; too many atoms leave all as it was. Rows stay in order when they are folded: no
-// stage judges them again. Unused rows are not cleared where they are known to be clear (fresh). The areas stay apart: two fields of a lent
-// struct are not lent on in one call.
+// stage judges them again. Unused rows are not cleared where they are known to be clear (fresh).
+// The areas are lent one by one: standardising and the rounds take three of them, folding takes "all" and the spare, so a struct would be undone.
+// `fresh` is a fact of the areas that the caller has, handed on as it is: a closure or a type for the clearing would need its condition too.
 pub fn run_tables(
     rules: &Rules<'_>,
     folds: usize,
@@ -34,10 +34,10 @@ pub fn run_tables(
     requires clear { fresh ≡ true → Clear row_area all.old × Clear row_area any.old × Clear row_area spare.old }
     ensures { record {
       number = number_in result;
-      atoms = count_in (λ r. r.atoms) result;
+      atoms = count_in (λ r. r.made.atoms) result;
       rounds = count_in (λ r. r.rounds) result;
-      c = count_in (λ r. r.c) result;
-      h = count_in (λ r. r.h) result;
+      c = count_in (λ r. r.made.c) result;
+      h = count_in (λ r. r.made.h) result;
       areas = record { all = all.new; any = any.new; spare = spare.new; model = model.new };
     } ≡ run_tables (program_in rules.now.tables rules.now.counts) folds
         (record { all = all.old; any = any.old; spare = spare.old; model = model.old }) }
@@ -47,10 +47,5 @@ pub fn run_tables(
     unfold::fold_formed(all, spare, made.atoms, folds, fresh);
     // The rounds refuse no rows that standardising left.
     let rounds = rounds::run_formed(all, any, model, made.atoms)?;
-    Ok(Run {
-        atoms: made.atoms,
-        rounds,
-        c: made.c,
-        h: made.h,
-    })
+    Ok(Run { made, rounds })
 }

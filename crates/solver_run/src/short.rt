@@ -15,13 +15,7 @@ fn one<W: Write>(
     less: usize,
 ) -> io::Result<()> {
     let mut areas = Areas::marked();
-    let mut lent = areas.lend(|place, stated| {
-        if short == Some(place) {
-            stated.saturating_sub(less)
-        } else {
-            stated
-        }
-    });
+    let mut lent = areas.lend(|place, stated| place.room(stated, short, less));
     calls::solve(out, text, folds, &mut lent)
 }
 

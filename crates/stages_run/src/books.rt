@@ -1,7 +1,6 @@
 // A book: standardised, and from there folded and run for each number of folds.
 use crate::calls;
-use limits::Book;
-use reader::Counts;
+use limits::{Book, Counts};
 use scan::table::folding;
 use std::io;
 use std::io::Write;
@@ -10,17 +9,30 @@ use trial::lent::{LentTables, Rows, Tables};
 // Prints what standardising answers and leaves; whether it accepts.
 fn standardised<W: Write>(out: &mut W, tables: &LentTables, book: Counts) -> io::Result<bool> {
     let mut rows = Rows::marked();
-    calls::standardise(out, tables, book, &mut rows.whole())
+    calls::standardise(
+        out,
+        tables,
+        book,
+        &mut rows.all,
+        &mut rows.any,
+        &mut rows.model,
+    )
 }
 
 // k folds of rows that are standardised anew, and the rounds.
 fn folded<W: Write>(out: &mut W, tables: &LentTables, book: Counts, k: usize) -> io::Result<()> {
     let mut rows = Rows::marked();
-    let mut lent = rows.whole();
-    let answer = calls::made(tables, book, &mut lent);
+    let answer = standard::standardise(
+        tables.heads,
+        tables.bodies,
+        book,
+        &mut rows.all,
+        &mut rows.any,
+        &mut rows.model,
+    );
     let atoms = answer.map_or(0, |r| r.atoms);
-    calls::fold(out, &mut lent, atoms, k)?;
-    calls::run(out, lent, atoms)
+    calls::fold(out, &mut rows.all, &mut rows.spare, atoms, k)?;
+    calls::run(out, &rows.all, &rows.any, &mut rows.model, atoms)
 }
 
 pub fn show<W: Write>(out: &mut W, text: &[u8]) -> io::Result<()> {

@@ -7,29 +7,21 @@ mod calls;
 mod cases;
 mod print;
 
-use std::fs::Files;
+use std::io;
 use std::io::{BufWriter, Write};
-use std::{env, io};
 use trial::files;
 use trial::lines::titled;
 
-fn argument<R: Files + AllocGlobal + Eprint, W: Write>(
-    rt: &R,
-    out: &mut W,
-    path: &str,
-) -> io::Result<()> {
-    let text = files::take(rt, out, path)?;
-    if titled(&text) {
-        cases::each(out, &text)
+fn show<W: Write>(out: &mut W, text: &[u8]) -> io::Result<()> {
+    if titled(text) {
+        cases::each(out, text)
     } else {
-        books::show(out, &text)
+        books::show(out, text)
     }
 }
 
 fn main(rt: HostRuntime) -> io::Result<()> {
     let mut out = BufWriter::new(rt.alloc(), io::writer(&rt))?;
-    for path in env::args(&rt)?.skip(1) {
-        argument(&rt, &mut out, path.as_str())?;
-    }
+    files::each(&rt, &mut out, |out, _, text| show(out, text))?;
     out.flush()
 }

@@ -1,25 +1,19 @@
 // Rows as the atoms in them.
 use limits::Book;
+use rows::members::Members;
 use std::io;
 use std::io::Write;
 use trial::print;
 
-fn has(row: &[u64], a: usize) -> bool {
-    row.get(a / Book::WORD_BITS)
-        .is_some_and(|word| (*word >> (a % Book::WORD_BITS)) % 2 == 1)
-}
-
 // Its atoms, those past the atom count too.
-fn row<W: Write>(out: &mut W, row: &[u64]) -> io::Result<()> {
-    for a in 0..Book::ATOMS {
-        if has(row, a) {
-            write!(out, " {a}")?;
-        }
+fn row<W: Write>(out: &mut W, words: &[u64; Book::ROW_WORDS]) -> io::Result<()> {
+    for a in Members::of(words, 0) {
+        write!(out, " {a}")?;
     }
     Ok(())
 }
 
-// The first rows of an area, with a stroke between two, where a call accepted few atoms.
+// The first rows of an area, which has so many where a call accepted it, with a stroke between two, where a call accepted few atoms.
 pub fn rows<W: Write>(
     out: &mut W,
     atoms: usize,
@@ -35,7 +29,9 @@ pub fn rows<W: Write>(
         if i > 0 {
             write!(out, " /")?;
         }
-        row(out, words)?;
+        if let Some(words) = words.first_chunk::<{ Book::ROW_WORDS }>() {
+            row(out, words)?;
+        }
     }
     writeln!(out)
 }

@@ -20,10 +20,10 @@ use Rattle.areas.proofs.Filled.{length_filled, filled_begun, filled_again}
 use Rattle.systems.specs.Rows.{RowAreas, packed}
 use Rattle.systems.specs.Rounds.{with_model, short_system}
 use Rattle.systems.specs.Standardise.{StandardOutcome, short_rules, short_tables, formed_tables, standard_refusal, standard_rows, standard_call}
-use Rattle.systems.specs.Claims.{StandardLong}
+use Rattle.systems.specs.Claims.{RoundsLong, StandardLong}
 use Rattle.systems.proofs.Packed.{length_packed}
 use Rattle.systems.proofs.Bridge.{formed_limits, formed_program}
-use Rattle.systems.proofs.Running.{length_model, model_again}
+use Rattle.systems.proofs.Running.{length_model, model_again, long_at}
 use Rattle.systems.proofs.Standard.{standard_well, long_tables, standard_short, standard_ill, standard_over, standard_good}
 use Rattle.ways.specs.Ways.{several_names}
 use Rattle.ways.proofs.Counts.{heads_below, row_atoms, row_h}
@@ -33,7 +33,7 @@ use Rattle.limits.specs.declared.Refusal.{Refusal}
 use Rattle.limits.specs.Refusal.{number_of}
 use Rattle.areas.proofs.Parts.{part_whole}
 use Rattle.words.proofs.Rows.{length_pack}
-use Rattle.standard.specs.Short.{short_rows}
+use Rattle.rowcheck.specs.Short.{short_rows}
 use Rattle.ways.specs.Tables.{tables_cause}
 use Rattle.ways.proofs.Judged.{refused_tables}
 
@@ -67,29 +67,29 @@ module _ (tables : RuleTables) (counts : Counts) (formed : formed_tables tables 
   pub head_names : (j : ℕ) → j < m → get_or heads j 0 < names
   head_names = heads_below tables counts formed
 
-  -- the names with several rules are marked, and `helpers` rules are theirs
-  module _ (marked : List ℕ) (s : marked ≡ pack body_words (several_names heads m)) (helpers : ℕ)
-      (q : helpers ≡ count m (λ j. row (part 0 body_words marked) (get_or heads j 0))) where
+  -- the names with several rules are marked, and `helpers` rules are theirs; `named` is how many names there are
+  module _ {marked : List ℕ} (s : marked ≡ pack body_words (several_names heads m)) {helpers : ℕ}
+      (q : helpers ≡ count m (λ j. row (part 0 body_words marked) (get_or heads j 0))) {named : ℕ} (r : named ≡ n) where
     marked_long : length marked ≡ body_words
     marked_long = ap length s ∙ length_pack body_words (several_names heads m)
 
-    pub helpers_few : n + helpers ≤ names + rules
+    pub helpers_few : named + helpers ≤ names + rules
     helpers_few =
         let b : count m (λ j. row (part 0 body_words marked) (get_or heads j 0)) ≤ m =
         count_le m (λ j. row (part 0 body_words marked) (get_or heads j 0))
         in
-        omega (arith, in_limits.0, in_limits.1)
+        omega (arith, r, in_limits.0, in_limits.1)
 
     -- that many atoms
-    atoms_are : n + helpers ≡ (standard p).atoms
-    atoms_are = ap (λ (k : ℕ). n + k) q ∙ row_atoms tables counts formed marked s
+    atoms_are : named + helpers ≡ (standard p).atoms
+    atoms_are = ap (λ (k : ℕ). k + helpers) r ∙ ap (λ (k : ℕ). n + k) q ∙ row_atoms tables counts formed marked s
 
     -- not over 256: the rows before any rule
-    module _ (l : n + helpers ≤ atoms) where
+    module _ (l : named + helpers ≤ atoms) where
       few : (standard p).atoms ≤ atoms
       few = subst (λ (k : ℕ). k ≤ atoms) atoms_are l
 
-      by_atoms : (rows : ℕ → Set) (old new : List ℕ) → new ≡ filled row_area (packed row_words (n + helpers) rows) old
+      by_atoms : (rows : ℕ → Set) (old new : List ℕ) → new ≡ filled row_area (packed row_words (named + helpers) rows) old
           → new ≡ filled row_area (packed row_words (standard p).atoms rows) old
       by_atoms rows old new u = u ∙ ap (λ (k : ℕ). filled row_area (packed row_words k rows) old) atoms_are
 
@@ -102,8 +102,8 @@ module _ (tables : RuleTables) (counts : Counts) (formed : formed_tables tables 
           omega (arith, ap length u, length_filled row_area (packed row_words (standard p).atoms rows) old (omega (arith, few)) b)
 
       -- the areas o before, and o₁ with those rows
-      module _ (o o₁ : RowAreas) (x : o₁.all ≡ filled row_area (packed row_words (n + helpers) only) o.all)
-          (y : o₁.any ≡ filled row_area (packed row_words (n + helpers) (λ i. empty_set)) o.any)
+      module _ (o o₁ : RowAreas) (x : o₁.all ≡ filled row_area (packed row_words (named + helpers) only) o.all)
+          (y : o₁.any ≡ filled row_area (packed row_words (named + helpers) (λ i. empty_set)) o.any)
           (z : o₁.model ≡ with_model empty_set o.model) where
         -- the rules can be placed
         pub rows_ready : StandardLong tables o → PlacingReady tables counts marked o₁
@@ -131,7 +131,7 @@ module _ (tables : RuleTables) (counts : Counts) (formed : formed_tables tables 
 
         -- with them placed, the outcome is the definition's
         rows_well : (c h : ℕ) (o₂ : RowAreas) → Filled p c o₁ o₂ → h ≡ count (length marked * word_bits) (row marked)
-            → record { number = 0; atoms = n + helpers; c = c; h = h; areas = o₂ } ≡ standard_well p o
+            → record { number = 0; atoms = named + helpers; c = c; h = h; areas = o₂ } ≡ standard_well p o
         unfolding standard_rows
         rows_well c h o₂ f many =
             let as_many : (rows next : ℕ → Set) → length (packed row_words (standard p).atoms next) ≡ length (packed row_words (standard p).atoms rows) =
@@ -154,6 +154,10 @@ pub short_is : (o : RowAreas) (low : Bool) → low ≡ short_rows (length o.all)
 unfolding short_system
 short_is o low e = e
 
+-- areas of rows that are not too short are long enough
+pub long_rows : (o : RowAreas) (low : Bool) → low ≡ short_rows (length o.all) (length o.any) (length o.model) → low ≡ false → RoundsLong o
+long_rows o low e f = long_at o (sym (short_is o low e) ∙ f)
+
 module _ (tables : RuleTables) (counts : Counts) (o : RowAreas) (low : Bool)
     (short : low ≡ short_rows (length o.all) (length o.any) (length o.model)) where
   -- an area of rows too short: 1
@@ -174,19 +178,23 @@ module _ (tables : RuleTables) (counts : Counts) (o : RowAreas) (low : Bool)
       or_make : {a b : Bool} → a ≡ false → b ≡ false → a || b ≡ false
       or_make p q = rw (p, q)
 
+-- each test of judging
+pub ruleset judging = (call_short, call_refused, long_rows)
+
 -- the areas are long enough and the tables in order; the names with several rules are marked, and `helpers` rules are theirs
 module _ (tables : RuleTables) (counts : Counts) (o : RowAreas) (long : StandardLong tables o) (formed : formed_tables tables counts ≡ true)
-    (marked : List ℕ) (s : marked ≡ pack body_words (several_names tables.heads counts.rules)) (helpers : ℕ)
-    (q : helpers ≡ count counts.rules (λ j. row (part 0 body_words marked) (get_or tables.heads j 0))) where
+    {marked : List ℕ} (s : marked ≡ pack body_words (several_names tables.heads counts.rules)) {helpers : ℕ}
+    (q : helpers ≡ count counts.rules (λ j. row (part 0 body_words marked) (get_or tables.heads j 0)))
+    {named : ℕ} (r : named ≡ counts.names) where
   abbrev k : ℕ
-  k = counts.names + helpers
+  k = named + helpers
 
   -- over 256 atoms: 8
   pub call_over : atoms < k → standard_refusal 8 o ≡ standard_call tables counts o
   call_over l =
       sym
       (standard_over tables counts o (long_tables tables o long) formed
-      (subst (λ (x : ℕ). atoms < x) (atoms_are tables counts formed marked s helpers q) l))
+      (subst (λ (x : ℕ). atoms < x) (atoms_are tables counts formed s q r) l))
 
   -- the rows: 0
   pub call_done : k ≤ atoms → (o₁ : RowAreas) → o₁.all ≡ filled row_area (packed row_words k only) o.all
@@ -195,8 +203,8 @@ module _ (tables : RuleTables) (counts : Counts) (o : RowAreas) (long : Standard
       → h ≡ count (length marked * word_bits) (row marked)
       → record { number = 0; atoms = k; c = c; h = h; areas = o₂ } ≡ standard_call tables counts o
   call_done l o₁ x y z c h o₂ f many =
-      rows_well tables counts formed marked s helpers q l o o₁ x y z c h o₂ f many
-      ∙ sym (standard_good tables counts o (long_tables tables o long) formed (few tables counts formed marked s helpers q l))
+      rows_well tables counts formed s q r l o o₁ x y z c h o₂ f many
+      ∙ sym (standard_good tables counts o (long_tables tables o long) formed (few tables counts formed s q r l))
 
 -- an outcome over areas that are handed back
 pub handed_back : {k c h : ℕ} {x x' y y' z z' : List ℕ} {r : StandardOutcome} → x ≡ x' → y ≡ y' → z ≡ z'

@@ -7,10 +7,10 @@ ghost use Rattle.limits.specs.Refusal.{number_in, count_in};
 ghost use Rattle.areas.specs.Area.{Clear};
 ghost use Rattle.systems.specs.Standardise.{standard_call};
 ghost use Rattle.systems.specs.Claims.{RoundsLong};
-ghost use Rattle.standard.specs.Short.{short_rows};
 
-use limits::{Book, Refusal};
+use limits::{Book, Counts, Refusal};
 use placing::Rows;
+use rowcheck::rows_short;
 use rows::row;
 use ways::Rules;
 
@@ -22,15 +22,9 @@ pub struct Standard {
     pub h: usize,
 }
 
-// Whether an area of rows is shorter than its stated size.
-fn too_short(all: usize, any: usize, model: usize) -> bool
-    ensures { result ≡ short_rows all any model }
-{
-    all < Book::ROW_AREA || any < Book::ROW_AREA || model < Book::ROW_WORDS
-}
-
 // Leaves the rows of these rules, zero past them, and the start set in the model area; too many atoms leave all as it was. The rules are not
-// judged again. Nor are unused rows cleared that a caller knows to be clear (fresh): it is known only as the program runs, so no type says it.
+// judged again. Nor are unused rows cleared that a caller knows to be clear (fresh).
+// `fresh` is a fact of the areas that the caller has: a closure or a type for the clearing would need the same condition in more words.
 pub fn standardise_formed(
     rules: &Rules<'_>,
     all: &mut [u64],
@@ -62,12 +56,13 @@ pub fn standardise_formed(
     Ok(Standard { atoms, c, h })
 }
 
-// Judges the tables, then standardises them; a refusal leaves all as it was. The areas are lent one by one: a caller's memory is fixed.
+// Judges the tables, then standardises them; a refusal leaves all as it was.
+// The areas are lent one by one: folds take "all" with the spare, rounds take it with "any", so a struct for this call would be undone for those.
+#[tactic(auto, using(crate::proofs::Calls::judging))]
 pub fn standardise(
     heads: &[u16],
     bodies: &[u64],
-    n: usize,
-    m: usize,
+    counts: Counts,
     all: &mut [u64],
     any: &mut [u64],
     model: &mut [u64],
@@ -78,12 +73,12 @@ pub fn standardise(
       c = count_in (λ r. r.c) result;
       h = count_in (λ r. r.h) result;
       areas = record { all = all.new; any = any.new; model = model.new };
-    } ≡ standard_call (record { heads = heads.now; bodies = bodies.now }) (record { names = n; rules = m })
+    } ≡ standard_call (record { heads = heads.now; bodies = bodies.now }) (record { names = counts.names; rules = counts.rules })
         (record { all = all.old; any = any.old; model = model.old }) }
 {
-    if too_short(all.len(), any.len(), model.len()) {
+    if rows_short(all.len(), any.len(), model.len()) {
         return Err(Refusal::ShortArea);
     }
-    let rules = Rules::judge(heads, bodies, n, m)?;
+    let rules = Rules::judge(heads, bodies, counts)?;
     standardise_formed(&rules, all, any, model, false)
 }

@@ -1,5 +1,5 @@
 pub mod Words
 pub mod Spelling
-pub mod Walks
 pub mod Meeting
+pub mod Turns
 pub mod Formed

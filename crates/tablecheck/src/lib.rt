@@ -8,9 +8,11 @@ ghost use Rattle.grammar.specs.Bytes.{letters};
 ghost use Rattle.tables.specs.Areas.{Areas, rule_tables};
 ghost use Rattle.tables.specs.Writing.{well_formed};
 
-use limits::Book;
+use limits::{Book, Counts};
+use order::rules_formed;
 use scan::letters::Letters;
 use std::marker::Model;
+use ways::RuleArea;
 
 pub mod names;
 pub mod order;
@@ -56,49 +58,6 @@ impl<'a> NameArea<'a> {
     }
 }
 
-// Lent heads and bodies, each at least as long as a book's, and how many rules are in use.
-#[derive(Drop)]
-pub struct RuleArea<'a> {
-    heads: &'a [u16],
-    bodies: &'a [u64],
-    count: usize,
-}
-
-impl<'a> Model for RuleArea<'a> {
-    ghost use Rattle.std.specs.Prelude.{◌≤◌, length};
-    ghost use Rattle.limits.specs.Book.{rules, body_area};
-    ghost use Rattle.tables.specs.Areas.{rule_tables};
-    ghost use Rattle.tablecheck.specs.Lent.{Rules};
-
-    ghost Value = { Rules };
-
-    ghost view = { λ t. record { tables = rule_tables t.heads.now t.bodies.now; count = t.count } };
-
-    ghost invariant = { λ t. (rules ≤ length t.heads.now) × (body_area ≤ length t.bodies.now) × (t.count ≤ rules) };
-}
-
-impl<'a> RuleArea<'a> {
-    // The area of m rules.
-    pub fn of(heads: &'a [u16], bodies: &'a [u64], m: usize) -> RuleArea<'a>
-        requires { (rules ≤ length heads.now) × (body_area ≤ length bodies.now) × (m ≤ rules) }
-        ensures { result ≡ record { tables = rule_tables heads.now bodies.now; count = m } }
-    {
-        RuleArea {
-            heads,
-            bodies,
-            count: m,
-        }
-    }
-
-    // How many rules are in use.
-    pub fn rule_count(&self) -> usize
-        ensures count { result ≡ self.now.count }
-        ensures bound { result ≤ rules }
-    {
-        self.count
-    }
-}
-
 // Lent tables: the names apart from the rules, so that what asks for the one asks nothing of the other.
 #[derive(Drop)]
 pub struct Tables<'a> {
@@ -106,30 +65,30 @@ pub struct Tables<'a> {
     pub rules: RuleArea<'a>,
 }
 
-// The tables, where they are those that some book reads to, under the folding.
+// The tables, where they are those that some book reads to, under the folding. The areas are taken one by one: a struct of the
+// loans would be made for this one call and taken apart in it.
 #[tactic(auto, using(crate::proofs::Formed::outcomes))]
 pub fn judge<'a>(
     spellings: &'a [u8],
     heads: &'a [u16],
     bodies: &'a [u64],
     folding: &Letters<'_>,
-    n: usize,
-    m: usize,
+    counts: Counts,
 ) -> Option<Tables<'a>>
     requires { (name_area ≤ length spellings.now) × (rules ≤ length heads.now) × (body_area ≤ length bodies.now) }
     ensures { let lent : Areas = record { spellings = spellings.now; heads = heads.now; bodies = bodies.now } in
-        result ≡ then_some (well_formed (letters folding.now) lent n m) (record {
-          names = record { area = spellings.now; count = n };
-          rules = record { tables = rule_tables heads.now bodies.now; count = m };
+        result ≡ then_some (well_formed (letters folding.now) lent counts.names counts.rules) (record {
+          names = record { area = spellings.now; count = counts.names };
+          rules = record { tables = rule_tables heads.now bodies.now; count = counts.rules };
         }) }
 {
-    if n > Book::NAMES || m > Book::RULES {
+    if counts.names > Book::NAMES || counts.rules > Book::RULES {
         return None;
     }
-    let names = NameArea::of(spellings, n);
-    let rules = RuleArea::of(heads, bodies, m);
+    let names = NameArea::of(spellings, counts.names);
+    let rules = RuleArea::of(heads, bodies, counts.rules);
     if !names.names_formed(folding) {
         return None;
     }
-    rules.rules_formed(n).then_some(Tables { names, rules })
+    rules_formed(&rules, counts.names).then_some(Tables { names, rules })
 }

@@ -1,25 +1,19 @@
 // The names of tables: each folded and padded with zeros, and no two the same.
-ghost use Rattle.std.specs.Prelude.{◌≡◌, ◌==◌, ◌&&◌, not, ◌*◌, ◌<◌, ◌≤◌, length};
-ghost use Rattle.std.specs.List.{position};
+ghost use Rattle.std.specs.Prelude.{◌≡◌, [], ◌&&◌, not, ◌-◌, ◌*◌, ◌<◌, ◌≤◌, length, get_or};
 ghost use Rattle.limits.specs.Book.{names, name_bytes, name_area};
 ghost use Rattle.sets.specs.Set.{every};
 ghost use Rattle.areas.specs.Area.{part};
 ghost use Rattle.grammar.specs.Bytes.{letters, all_of};
 ghost use Rattle.tables.specs.Numbering.{same_bytes};
-ghost use Rattle.tables.specs.Areas.{name_at};
+ghost use Rattle.tables.specs.Areas.{name_at, names_in};
 ghost use Rattle.tables.specs.Writing.{zero_from, own, good_name, different};
 
 use crate::NameArea;
-use crate::zeros::all_zero;
+use crate::zeros::{all_zero, between};
+use lexicon::look_up::{look_up, name_in};
 use limits::Book;
+use rows::row::nth;
 use scan::letters::Letters;
-
-// The place of the row's first zero.
-fn first_zero(row: &[u8]) -> Option<usize>
-    ensures { result ≡ position (λ b. b == 0) row.now }
-{
-    row.iter().position(|b| *b == 0)
-}
 
 // Whether a byte is a name byte that is its own entry.
 #[tactic(auto, unfolding(tables::specs::Writing::own, tables::specs::Areas::nonzero))]
@@ -29,34 +23,41 @@ fn is_own(b: u8, folding: &Letters<'_>) -> bool
     b != 0 && folding.fold(b) == b
 }
 
-// Whether every byte of a name is.
-pub fn own_bytes(name: &[u8], folding: &Letters<'_>) -> bool
-    ensures { result ≡ all_of (own (letters folding.now)) name.now }
+// Whether every byte from place `from` up to `to` is.
+pub fn own_bytes(area: &[u8], folding: &Letters<'_>, from: usize, to: usize) -> bool
+    requires { to ≤ length area.now }
+    ensures { result ≡ all_of (own (letters folding.now)) (part from (to - from) area.now) }
 {
-    name.iter().all(|b| is_own(*b, folding))
+    between(area, from, to).iter().all(|b| is_own(*b, folding))
 }
 
-impl NameArea<'_> {
+impl<'a> NameArea<'a> {
     // Row a of the name area.
-    fn name_row(&self, a: usize) -> &[u8]
+    fn name_row(&self, a: usize) -> &'a [u8]
         requires { a < names }
         ensures bytes { result.now ≡ part (a * name_bytes) name_bytes self.now.area }
         ensures size { length result.now ≡ name_bytes }
     {
-        let at = Book::name_at(a);
-        &self.spellings[at..at + Book::NAME_BYTES]
+        nth(self.spellings, a, Book::NAME_BYTES)
     }
 
     // The name in it: up to the row's first zero, or all of it.
-    #[tactic(auto, using(crate::proofs::Words::name_found))]
-    pub fn name(&self, a: usize) -> &[u8]
+    #[tactic(auto, using(crate::proofs::Spelling::name_found, tables::proofs::Encoding::name_fits))]
+    pub fn name(&self, a: usize) -> &'a [u8]
         requires { a < names }
         ensures bytes { result.now ≡ name_at self.now.area a }
         ensures bound { length result.now ≤ name_bytes }
     {
-        let row = self.name_row(a);
-        let end = first_zero(row).unwrap_or(row.len());
-        &row[..end]
+        name_in(self.name_row(a))
+    }
+
+    // Name a of those in use, nothing where it is none of them.
+    #[tactic(auto, using(crate::proofs::Spelling::look_up_is, crate::proofs::Spelling::look_up_fits))]
+    pub fn spelt(&self, a: usize) -> &'a [u8]
+        ensures bytes { result.now ≡ get_or (names_in self.now.area self.now.count) a [] }
+        ensures bound { length result.now ≤ name_bytes }
+    {
+        look_up(self.spellings, self.count, a)
     }
 
     // Whether row a holds a folded name, padded with zeros.
@@ -65,9 +66,9 @@ impl NameArea<'_> {
         requires { a < names }
         ensures { result ≡ good_name (letters folding.now) self.now.area a }
     {
-        let name = self.name(a);
-        let padding = &self.name_row(a)[name.len()..];
-        !name.is_empty() && own_bytes(name, folding) && all_zero(padding)
+        let row = self.name_row(a);
+        let end = self.name(a).len();
+        end > 0 && own_bytes(row, folding, 0, end) && all_zero(row, end, row.len())
     }
 
     pub fn good_names(&self, folding: &Letters<'_>) -> bool

@@ -1,24 +1,42 @@
 // The files of data/, which arguments name.
+use std::env::Env;
 use std::fs::{File, Files};
-use std::io;
 use std::io::{Read, Write};
+use std::{env, io};
 
-// Prints the name of the file, which is an argument, and returns what is in it. A file that cannot be opened is told on standard error, its
+// How many bytes of a file are read, its first: a book that is too long, or many books or cases.
+const INPUT: u64 = 65536;
+
+// Prints the name of the file, which is an argument, and returns what is read of it. A file that cannot be opened is told on standard error, its
 // name is not printed, and nothing is read.
-pub fn take<R: Files + AllocGlobal + Eprint, W: Write>(
+fn take<R: Files + AllocGlobal + Eprint, W: Write>(
     rt: &R,
     out: &mut W,
     path: &str,
 ) -> io::Result<Vec<u8>> {
     let mut text = Vec::new(rt.alloc());
     match File::open(rt, path) {
-        Ok(mut file) => {
+        Ok(file) => {
             writeln!(out, "{path}")?;
-            file.read_to_end(&mut text)?;
+            file.take(INPUT).read_to_end(&mut text)?;
         }
         Err(e) => eprintln!(rt; "{path}: {e}")?,
     }
     Ok(text)
+}
+
+// Hands each file that an argument names to `show`, by its name and what is read of it.
+pub fn each<R, W: Write, F>(rt: &R, out: &mut W, show: F) -> io::Result<()>
+where
+    R: Env + Files + AllocGlobal + Eprint,
+    F: Fn(&mut W, &str, &[u8]) -> io::Result<()>,
+    requires { F.IsAlwaysCallable show }
+{
+    for path in env::args(rt)?.skip(1) {
+        let text = take(rt, out, path.as_str())?;
+        show(out, path.as_str(), &text)?;
+    }
+    Ok(())
 }
 
 // Whether the name of the file begins `ev`, as `every_byte_..`: a file in which something takes every value.

@@ -1,10 +1,9 @@
 // The areas that are lent: a mark in every entry that has no other value, and GUARD entries past the stated size.
-ghost use Rattle.std.specs.Prelude.{◌≡◌, ℕ, ◌%◌, ◌^◌, take, All};
+ghost use Rattle.std.specs.Prelude.{◌≡◌, ◌≤◌, ℕ, ◌%◌, ◌^◌, take, All};
 ghost use Rattle.std.specs.Io.{StartsWith};
 
 use areas::Entry;
-use limits::{Book, Refusal, Refused};
-use reader::Counts;
+use limits::{Book, Counts, Refusal, Refused};
 use solver::Solved;
 
 pub const GUARD: usize = 4;
@@ -23,7 +22,8 @@ const LISTING: usize = Book::LISTING_BYTES + GUARD;
 
 pub const TEXT: usize = Book::TEXT_BYTES + GUARD;
 
-// An entry of a width: its mark, and the entry with the low bits of a number.
+// An entry of a width: its mark, and the entry with the low bits of a number. `low` goes by `as`: a `try_from`
+// would have an arm that never comes.
 pub trait Marked: Entry {
     ghost MARK: { Self };
 
@@ -95,6 +95,17 @@ impl Place {
         Place::Model,
         Place::Listing,
     ];
+
+    // How many entries are lent of an area with this stated size: so many less where it is the one that is short.
+    pub fn room(self, stated: usize, short: Option<Place>, less: usize) -> usize
+        ensures { result ≤ stated }
+    {
+        if short == Some(self) {
+            stated.saturating_sub(less)
+        } else {
+            stated
+        }
+    }
 }
 
 // The first entries of an area, or all where it has no more.
@@ -105,7 +116,8 @@ pub fn first<E>(area: &mut [E], size: usize) -> &mut [E]
     &mut area[..size]
 }
 
-// The areas of a book's tables.
+// The areas of a book's tables. These, the areas of rows and those that the solver takes are made and lent alike, each by its fields: one
+// function for all would take each field by its name and type.
 #[derive(Drop)]
 pub struct Tables {
     pub spellings: [u8; SPELLINGS],
@@ -214,10 +226,6 @@ impl Rows {
             ),
         }
     }
-
-    pub fn whole(&mut self) -> LentRows<'_> {
-        self.lend(|_, _| usize::MAX)
-    }
 }
 
 // All areas that the solver takes.
@@ -236,7 +244,16 @@ pub struct Lent<'a> {
 }
 
 impl Areas {
-    pub fn marked() -> Areas {
+    pub fn marked() -> Areas
+        ensures spellings { All (λ x. x ≡ ⟦<u8 as Marked>⟧.MARK) result.tables.spellings }
+        ensures heads { All (λ x. x ≡ ⟦<u16 as Marked>⟧.MARK) result.tables.heads }
+        ensures bodies { All (λ x. x ≡ ⟦<u64 as Marked>⟧.MARK) result.tables.bodies }
+        ensures all { All (λ x. x ≡ ⟦<u64 as Marked>⟧.MARK) result.rows.all }
+        ensures any { All (λ x. x ≡ ⟦<u64 as Marked>⟧.MARK) result.rows.any }
+        ensures spare { All (λ x. x ≡ ⟦<u64 as Marked>⟧.MARK) result.rows.spare }
+        ensures model { All (λ x. x ≡ ⟦<u64 as Marked>⟧.MARK) result.rows.model }
+        ensures listing { All (λ x. x ≡ ⟦<u8 as Marked>⟧.MARK) result.listing }
+    {
         Areas {
             tables: Tables::marked(),
             rows: Rows::marked(),
@@ -244,8 +261,17 @@ impl Areas {
         }
     }
 
+    #[tactic(auto, using(crate::proofs::Fronts::front))]
     pub fn lend<F: Fn(Place, usize) -> usize>(&mut self, room: F) -> Lent<'_>
         requires { F.IsAlwaysCallable room }
+        ensures spellings { StartsWith self.old.tables.spellings result.tables.spellings.now }
+        ensures heads { StartsWith self.old.tables.heads result.tables.heads.now }
+        ensures bodies { StartsWith self.old.tables.bodies result.tables.bodies.now }
+        ensures all { StartsWith self.old.rows.all result.rows.all.now }
+        ensures any { StartsWith self.old.rows.any result.rows.any.now }
+        ensures spare { StartsWith self.old.rows.spare result.rows.spare.now }
+        ensures model { StartsWith self.old.rows.model result.rows.model.now }
+        ensures listing { StartsWith self.old.listing result.listing.now }
     {
         Lent {
             tables: self.tables.lend(&room),
@@ -263,17 +289,9 @@ impl LentTables<'_> {
         reader::read(text, letters, self.spellings, self.heads, self.bodies)
     }
 
-    // Writes a book's tables, and returns the length of the text.
+    // Writes a book's tables, and returns the length of the text. The counts are no part of the tables: others are lent with the same tables.
     pub fn write(&self, letters: &[u8], book: Counts, text: &mut [u8]) -> Result<usize, Refusal> {
-        writer::write(
-            self.spellings,
-            self.heads,
-            self.bodies,
-            letters,
-            book.names,
-            book.rules,
-            text,
-        )
+        writer::write(self.spellings, self.heads, self.bodies, letters, book, text)
     }
 
     // The bodies of the first m rules become all names.
@@ -284,6 +302,7 @@ impl LentTables<'_> {
     }
 }
 
+// A function of its own: the borrow checker does not cover a call that lends fields of `tables` and `rows` from behind `self`, named or taken apart.
 fn solve(
     text: &[u8],
     letters: &[u8],

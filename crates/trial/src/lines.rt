@@ -19,7 +19,7 @@ pub fn line_size(text: &[u8]) -> usize
     }
 }
 
-// The size of the lines before the first title.
+// The size of the lines before the first title. A chain's sum would need a law that it stays within the text, which here each step shows.
 fn body_size(text: &[u8]) -> usize
     ensures { result ≤ length text.now }
 {

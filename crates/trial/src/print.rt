@@ -1,14 +1,14 @@
-// Bytes and checksums, for a writer that is lent. Each says what the writer holds afterwards, where its type says what it holds.
-ghost use Rattle.std.specs.Prelude.{◌≡◌, OnOk, [], ◌∷◌, ◌++◌, decimal};
+// Bytes and checksums, for a writer that is lent. Each but `solved` and `listing` says what the writer then holds, where its type says what it holds.
+ghost use Rattle.std.specs.Prelude.{◌≡◌, OnOk, [], ◌∷◌, ◌++◌, decimal, not, ◌==◌, take_while};
 ghost use Rattle.std.specs.Io.KnownBytes.{Appends};
-ghost use Rattle.checksum.specs.Total.{total_by};
-ghost use Rattle.limits.specs.Refusal.{number_in};
+ghost use Rattle.checksum.specs.Total.{total, total_by};
+ghost use Rattle.limits.specs.Refusal.{number_in, refused_number, refused_line, count_in};
 
-use crate::lent::{Lent, LentTables};
+use crate::lent::{Lent, LentRows, LentTables};
 use areas::Entry;
-use limits::{Refusal, Refused};
+use lexicon::look_up::name_in;
+use limits::{Counts, Refusal, Refused};
 use plain::Plain;
-use reader::Counts;
 use solver::Solved;
 use std::io;
 use std::io::Write;
@@ -31,9 +31,10 @@ pub fn total<W: Write, E: Entry>(out: &mut W, area: &[E]) -> io::Result<()>
 }
 
 // The bytes of an area up to the first that is zero.
-pub fn up_to_zero<W: Write>(out: &mut W, area: &[u8]) -> io::Result<()> {
-    let size = area.iter().position(|b| *b == 0).unwrap_or(area.len());
-    out.write_all(&area[..size])
+pub fn up_to_zero<W: Write>(out: &mut W, area: &[u8]) -> io::Result<()>
+    ensures { OnOk result (Appends (W.contents out.old) (W.contents out.new) (take_while (λ b. not (b == 0)) area.now)) }
+{
+    out.write_all(name_in(area))
 }
 
 // The number of a refusal, or 0 where there is none.
@@ -46,15 +47,30 @@ pub fn number<T>(answer: &Result<T, Refusal>) -> usize
     }
 }
 
-// What the reader answers.
-pub fn read<W: Write>(out: &mut W, answer: &Result<Counts, Refused>) -> io::Result<()> {
-    match answer {
-        Ok(book) => write!(out, "0 0 {} {}", book.names, book.rules),
-        Err(refused) => write!(out, "{} {} 0 0", refused.cause.number(), refused.line),
-    }
+// That number and the count that is returned, or 0.
+pub fn counted<W: Write>(out: &mut W, answer: &Result<usize, Refusal>) -> io::Result<()>
+    ensures { OnOk result (Appends (W.contents out.old) (W.contents out.new)
+        (decimal (number_in answer.now) ++ 32 ∷ decimal (count_in (λ n. n) answer.now))) }
+{
+    write!(out, "{} {}", number(answer), answer.unwrap_or(0))
 }
 
-// What the solver answers.
+// What the reader answers.
+pub fn read<W: Write>(out: &mut W, answer: &Result<Counts, Refused>) -> io::Result<()>
+    ensures { OnOk result (Appends (W.contents out.old) (W.contents out.new)
+        (decimal (refused_number answer.now)
+        ++ 32 ∷ decimal (refused_line answer.now)
+        ++ 32 ∷ decimal (count_in (λ r. r.names) answer.now)
+        ++ 32 ∷ decimal (count_in (λ r. r.rules) answer.now))) }
+{
+    let (number, line, names, rules) = match answer {
+        Ok(book) => (0, 0, book.names, book.rules),
+        Err(refused) => (refused.cause.number(), refused.line, 0, 0),
+    };
+    write!(out, "{number} {line} {names} {rules}")
+}
+
+// What the solver answers. That its eight numbers are what the writer holds afterwards the search did not find.
 pub fn solved<W: Write>(out: &mut W, answer: &Result<Solved, Refused>) -> io::Result<()> {
     match answer {
         Ok(r) => {
@@ -69,27 +85,81 @@ pub fn solved<W: Write>(out: &mut W, answer: &Result<Solved, Refused>) -> io::Re
 }
 
 // What the plain route answers.
-pub fn plain<W: Write>(out: &mut W, answer: &Result<Plain, Refusal>) -> io::Result<()> {
-    match answer {
-        Ok(r) => write!(out, "plain 0 {} {}", r.held, r.rounds),
-        Err(cause) => write!(out, "plain {} 0 0", cause.number()),
-    }
+pub fn plain<W: Write>(out: &mut W, answer: &Result<Plain, Refusal>) -> io::Result<()>
+    ensures { OnOk result (Appends (W.contents out.old) (W.contents out.new)
+        (112 ∷ 108 ∷ 97 ∷ 105 ∷ 110 ∷ 32 ∷ decimal (number_in answer.now)
+        ++ 32 ∷ decimal (count_in (λ r. r.held) answer.now)
+        ++ 32 ∷ decimal (count_in (λ r. r.rounds) answer.now))) }
+{
+    let (held, rounds) = match answer {
+        Ok(r) => (r.held, r.rounds),
+        Err(_) => (0, 0),
+    };
+    write!(out, "plain {} {held} {rounds}", number(answer))
 }
 
-// A checksum of each area.
-pub fn tables<W: Write>(out: &mut W, tables: &LentTables) -> io::Result<()> {
-    total(out, tables.spellings)?;
+// A checksum of heads and one of bodies.
+pub fn rules<W: Write>(out: &mut W, tables: &LentTables) -> io::Result<()>
+    ensures { OnOk result (Appends (W.contents out.old) (W.contents out.new)
+        (32 ∷ decimal (total tables.now.heads.now) ++ 32 ∷ decimal (total tables.now.bodies.now))) }
+{
     total(out, tables.heads)?;
     total(out, tables.bodies)
 }
 
-pub fn areas<W: Write>(out: &mut W, lent: &Lent) -> io::Result<()> {
+// A checksum of each area.
+pub fn tables<W: Write>(out: &mut W, tables: &LentTables) -> io::Result<()>
+    ensures { OnOk result (Appends (W.contents out.old) (W.contents out.new)
+        (32 ∷ decimal (total tables.now.spellings.now)
+        ++ 32 ∷ decimal (total tables.now.heads.now)
+        ++ 32 ∷ decimal (total tables.now.bodies.now))) }
+{
+    total(out, tables.spellings)?;
+    rules(out, tables)
+}
+
+fn rows<W: Write>(out: &mut W, rows: &LentRows) -> io::Result<()>
+    ensures { OnOk result (Appends (W.contents out.old) (W.contents out.new)
+        (32 ∷ decimal (total rows.now.all.now)
+        ++ 32 ∷ decimal (total rows.now.any.now)
+        ++ 32 ∷ decimal (total rows.now.spare.now)
+        ++ 32 ∷ decimal (total rows.now.model.now))) }
+{
+    total(out, rows.all)?;
+    total(out, rows.any)?;
+    total(out, rows.spare)?;
+    total(out, rows.model)
+}
+
+fn lent_areas<W: Write>(out: &mut W, lent: &Lent) -> io::Result<()>
+    ensures { OnOk result (Appends (W.contents out.old) (W.contents out.new)
+        ((32 ∷ decimal (total lent.now.tables.spellings.now)
+        ++ 32 ∷ decimal (total lent.now.tables.heads.now)
+        ++ 32 ∷ decimal (total lent.now.tables.bodies.now))
+        ++ (32 ∷ decimal (total lent.now.rows.all.now)
+        ++ 32 ∷ decimal (total lent.now.rows.any.now)
+        ++ 32 ∷ decimal (total lent.now.rows.spare.now)
+        ++ 32 ∷ decimal (total lent.now.rows.model.now))
+        ++ 32 ∷ decimal (total lent.now.listing.now))) }
+{
     tables(out, &lent.tables)?;
-    total(out, lent.rows.all)?;
-    total(out, lent.rows.any)?;
-    total(out, lent.rows.spare)?;
-    total(out, lent.rows.model)?;
-    total(out, lent.listing)?;
+    rows(out, &lent.rows)?;
+    total(out, lent.listing)
+}
+
+pub fn areas<W: Write>(out: &mut W, lent: &Lent) -> io::Result<()>
+    ensures { OnOk result (Appends (W.contents out.old) (W.contents out.new)
+        (((32 ∷ decimal (total lent.now.tables.spellings.now)
+        ++ 32 ∷ decimal (total lent.now.tables.heads.now)
+        ++ 32 ∷ decimal (total lent.now.tables.bodies.now))
+        ++ (32 ∷ decimal (total lent.now.rows.all.now)
+        ++ 32 ∷ decimal (total lent.now.rows.any.now)
+        ++ 32 ∷ decimal (total lent.now.rows.spare.now)
+        ++ 32 ∷ decimal (total lent.now.rows.model.now))
+        ++ 32 ∷ decimal (total lent.now.listing.now))
+        ++ 10 ∷ [])) }
+{
+    lent_areas(out, lent)?;
     writeln!(out)
 }
 

@@ -19,7 +19,7 @@ use Rattle.areas.specs.Area.{part, begun}
 use Rattle.words.specs.Row.{bit, row, pack}
 use Rattle.words.proofs.Bits.{bit_zero, bit_lowest, trailing_lt}
 use Rattle.words.proofs.Rows.{row_word, row_pack, length_pack, pack_same, pack_row, pack_empty}
-use Rattle.rows.proofs.Reading.{Known, in_range, word_of}
+use Rattle.rows.proofs.Reading.{Known, in_range}
 use Rattle.rows.proofs.Walking.{trailing_fits}
 use Rattle.program.specs.System.{unfold_once}
 use Rattle.systems.specs.Rows.{row_in, packed}
@@ -106,23 +106,25 @@ module _ (w : ℕ) (from : List ℕ) (i : ℕ) where
   -- of one word more
   unfold_word : (k a : ℕ) → k < w
       → unfold_once ((k + 1) * word_bits) (row_in w from) i a
-      ≡ unfold_once (k * word_bits) (row_in w from) i a || named w from k (get_or from (i * w + k) 0) a
+      ≡ unfold_once (k * word_bits) (row_in w from) i a || named w from k (get_or (part (i * w) w from) k 0) a
   unfolding unfold_once
   unfold_word k a l =
       let m : (k + 1) * word_bits ≡ k * word_bits + word_bits = omega arith in
       let p : Set = λ j. row_in w from i j && row_in w from j a in
       ap (λ (n : ℕ). exists n p) m ∙ exists_add (k * word_bits) word_bits p
       ∙ ap (λ (b : Bool). exists (k * word_bits) p || b)
-      (exists_same word_bits (λ b. p (k * word_bits + b)) (λ b. bit (get_or from (i * w + k) 0) b && row_in w from (k * word_bits + b) a)
-      (λ b g.
-      ap (λ (c : Bool). c && row_in w from (k * word_bits + b) a)
-      (row_word (part (i * w) w from) k b g ∙ ap (λ (x : ℕ). bit x b) (word_of (i * w) w from k l))))
+      (exists_same word_bits (λ b. p (k * word_bits + b)) (λ b. bit (get_or (part (i * w) w from) k 0) b && row_in w from (k * word_bits + b) a)
+      (λ b g. ap (λ (c : Bool). c && row_in w from (k * word_bits + b) a) (row_word (part (i * w) w from) k b g)))
 
-  pub folded_on : (k : ℕ) → k < w → folded_below (k + 1) ≡ pack w (union (row (folded_below k)) (named w from k (get_or from (i * w + k) 0)))
-  folded_on k l =
+  -- word k is read off the row
+  pub folded_on : (k : ℕ) (ws : List ℕ) → ws ≡ part (i * w) w from → k < w
+      → folded_below (k + 1) ≡ pack w (union (row (folded_below k)) (named w from k (get_or ws k 0)))
+  folded_on k ws e l =
       let f : Set = unfold_once (k * word_bits) (row_in w from) i in
-      sym (pack_same w (union (row (pack w f)) (named w from k (get_or from (i * w + k) 0))) (unfold_once ((k + 1) * word_bits) (row_in w from) i)
-      (λ a b. ap (λ (c : Bool). c || named w from k (get_or from (i * w + k) 0) a) (row_pack w f a b) ∙ sym (unfold_word k a l)))
+      let x : ℕ = get_or (part (i * w) w from) k 0 in
+      sym (pack_same w (union (row (pack w f)) (named w from k x)) (unfold_once ((k + 1) * word_bits) (row_in w from) i)
+      (λ a b. ap (λ (c : Bool). c || named w from k x a) (row_pack w f a b) ∙ sym (unfold_word k a l)))
+      ∙ ap (λ (ys : List ℕ). pack w (union (row (folded_below k)) (named w from k (get_or ys k 0)))) (sym e)
 
 -- the laws of `fold_row`
 pub ruleset folding = (folded_none, folded_on)

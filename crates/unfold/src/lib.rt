@@ -34,7 +34,8 @@ impl<'a> Model for Rows<'a> {
 }
 
 impl<'a> Rows<'a> {
-    // The rows of the atoms that `word` names, as word k of a row, join the row `to`. Each turn takes the lowest bit out of the rest.
+    // The rows of the atoms that `word` names, as word k of a row, join the row `to`. Each turn takes the lowest bit out of the rest; its place
+    // goes by `as`, since `usize` has no `From<u32>`. By `Members` a full row takes 1.7 times the instructions: a change may cost 3 %.
     #[tactic(auto, using(crate::proofs::Uniting::uniting_words))]
     fn fold_word(&self, to: &mut [u64], word: u64, k: usize)
         requires { (k < row_words) × (length to.old ≡ row_words) }
@@ -44,8 +45,7 @@ impl<'a> Rows<'a> {
         let mut rest = word;
         while rest != 0 {
             let j = k * Book::WORD_BITS + rest.trailing_zeros() as usize;
-            let at = Book::row_at(j);
-            row::unite(to, &self.words[at..at + Book::ROW_WORDS]);
+            row::unite(to, row::nth(self.words, j, Book::ROW_WORDS));
             rest &= rest - 1;
         }
     }
@@ -56,15 +56,15 @@ impl<'a> Rows<'a> {
         requires { i < atoms }
         ensures { result ≡ pack row_words (unfold_once atoms (row_in row_words self.now) i) }
     {
-        let at = Book::row_at(i);
         let mut new = [0; Book::ROW_WORDS];
-        for k in 0..Book::ROW_WORDS {
-            self.fold_word(&mut new, self.words[at + k], k);
+        for (k, &word) in row::nth(self.words, i, Book::ROW_WORDS).iter().enumerate() {
+            self.fold_word(&mut new, word, k);
         }
         new
     }
 
-    // The first count rows after the fold are put into `to`.
+    // The first count rows after the fold are put into `to`. A part that is written is cut where it is used: a function that hands one out tells
+    // what the area ends as by `Lends` alone, a longer clause.
     #[tactic(auto, using(crate::proofs::Uniting::putting))]
     fn fold(&self, to: &mut [u64], count: usize)
         requires { (count ≤ atoms) × (row_area ≤ length to.old) }
@@ -79,7 +79,8 @@ impl<'a> Rows<'a> {
 
 // k folds of the first count rows by turns into the spare and back; no row is copied but after an odd number of them. What the spare has past
 // the rows is left.
-// The areas stay parameters: the public calls are lent them one by one, and a struct of the two would serve this function alone.
+// The areas stay two parameters, here and in `fold_formed`: a struct of two `&mut` areas needs one clause more at each function that takes it, that
+// they stay the same areas.
 fn fold_turns(all: &mut [u64], spare: &mut [u64], count: usize, k: usize)
     requires { (count ≤ atoms) × (k ≤ folds) × (row_area ≤ length all.old) × (row_area ≤ length spare.old)
         × (formed_rows row_words atoms count all.old ≡ true) }
@@ -101,6 +102,8 @@ fn fold_turns(all: &mut [u64], spare: &mut [u64], count: usize, k: usize)
 
 // k folds of the first count rows, after which the spare is zero. For a caller that knows its rows to be in order, as after standardising:
 // they are not judged again. Nor is a spare cleared past them that it knows to be clear (fresh).
+// `fresh` is a fact of the spare that the caller has: a closure or a type for the clearing would need the same condition in more words. `count` stays
+// a number with `count ≤ atoms` beside it: a type for it would be made at each call and taken apart at once.
 pub fn fold_formed(all: &mut [u64], spare: &mut [u64], count: usize, k: usize, fresh: bool)
     requires { (count ≤ atoms) × (k ≤ folds) × (row_area ≤ length all.old) × (row_area ≤ length spare.old)
         × (formed_rows row_words atoms count all.old ≡ true) × (fresh ≡ true → Clear row_area spare.old) }

@@ -1,15 +1,14 @@
 -- Tables in order: what each test of an entry, and of the counts, settles.
 -- Assumes nothing.
-use mathlib.Core.Path.{◌≡◌, sym, ap, ◌∙◌}
+use mathlib.Core.Path.{◌≡◌, sym, ap, ap₂, ◌∙◌}
 use mathlib.Core.Bool.{Bool, false, not, ◌&&◌, and-false}
 use mathlib.Core.List.{List}
-use Prim.Native.Nat.{ℕ, ◌-◌, ◌*◌, ◌≤◌, ◌<◌}
-use lib.Dec.{eqb, leb, ltb}
-use lib.ListN.{get_or}
+use Prim.Native.Nat.{ℕ, ◌*◌, ◌≤◌, ◌<◌}
+use lib.Dec.{leb, ltb}
+use lib.ListN.{length, get_or}
 use borrow.Author.Tests.{eq-eqb, ne_eqb, lt-ltb, le-ltb, le-leb, lt-leb}
 use Rattle.limits.specs.Book.{names, rules, word_bits, body_words}
-use Rattle.sets.specs.Set.{every, exists, within, next}
-use Rattle.sets.proofs.Walk.{next_within}
+use Rattle.sets.specs.Set.{every, exists, within}
 use Rattle.areas.specs.Area.{part}
 use Rattle.words.specs.Row.{row}
 use Rattle.tables.specs.Areas.{RuleTables, Counts}
@@ -37,13 +36,13 @@ module _ (tables : RuleTables) (counts : Counts) where
         sym (ap (λ (b : Bool). b && within (body_words * word_bits) (row_in body_words bodies j) (λ a. ltb a n)) (le-ltb (get_or heads j 0) n h))
         ∙ sym (entry_used tables counts j l)
 
-    -- a head below n: the first name of the body from n on decides
-    pub body_decides : j < m → get_or heads j 0 < n → n ≤ names
-        → formed_entry tables counts j ≡ eqb (next (body_words * word_bits - n) (row (part (j * body_words) body_words bodies)) n) names
-    body_decides l h k =
-        entry_used tables counts j l
-        ∙ ap (λ (b : Bool). b && within (body_words * word_bits) (row_in body_words bodies j) (λ a. ltb a n)) (lt-ltb (get_or heads j 0) n h)
-        ∙ sym (next_within (body_words * word_bits) n (row_in body_words bodies j) k)
+    -- a head below n: the body decides
+    pub body_decides : (body : List ℕ) → j < m → get_or heads j 0 < n → body ≡ part (j * body_words) body_words bodies → length body ≡ body_words
+        → within (length body * word_bits) (row body) (λ a. ltb a n) ≡ formed_entry tables counts j
+    body_decides body l h e k =
+        ap₂ (λ (w : ℕ) (ws : List ℕ). within (w * word_bits) (row ws) (λ a. ltb a n)) k e
+        ∙ sym (ap (λ (b : Bool). b && within (body_words * word_bits) (row_in body_words bodies j) (λ a. ltb a n)) (lt-ltb (get_or heads j 0) n h))
+        ∙ sym (entry_used tables counts j l)
 
     -- an unused head that is not zero
     pub head_left : m ≤ j → (get_or heads j 0 ≡ 0 → ⊥) → false ≡ formed_entry tables counts j
@@ -76,4 +75,4 @@ module _ (tables : RuleTables) (counts : Counts) where
   entries l k = sym (rw (le-leb n names l, le-leb m rules k))
 
 -- an entry, test by test
-pub ruleset entry_tests = (head_over, body_decides, head_left, body_left)
+pub ruleset entry_tests = (head_over, head_left, body_left)

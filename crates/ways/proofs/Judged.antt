@@ -6,11 +6,10 @@ use mathlib.Core.Logic.{◌⊎◌, inl, inr}
 use Prim.Native.Nat.{◌<◌}
 use lib.ListN.{length}
 use borrow.Author.Tests.{lt-ltb}
-use native.Mathlib.Omega.{arith}
 use Rattle.limits.specs.declared.Refusal.{Refusal}
-use Rattle.limits.specs.declared.Refusal.TheVariants.{ShortArea, LongText, Mark, LastByte, Line, Names, Rules, Atoms, Folds, IllFormed, StartLost, LongWritten, LongName, BarredByte, ReservedByte, UnsettledEntry}
 use Rattle.limits.specs.Refusal.{number_of}
 use Rattle.limits.specs.Book.{rules, body_area}
+use Rattle.limits.proofs.Numbers.{number_some}
 use Rattle.sets.proofs.Logic.{either, or_left, or_right, pick_true, pick_false}
 use Rattle.systems.specs.Standardise.{short_rules, formed_tables}
 use Rattle.systems.specs.Claims.{TablesLong}
@@ -44,25 +43,6 @@ good_cause b o = pick_false _ _ (long_rules b.tables o.long) ∙ pick_true _ _ o
 -- each test of judging
 pub ruleset judging = (few_heads_cause, few_bodies_cause, ill_cause, good_cause)
 
--- no cause has number 0
-some : (cause : Refusal) → number_of cause ≡ 0 → ⊥
-some ShortArea e = omega arith
-some LongText e = omega arith
-some Mark e = omega arith
-some LastByte e = omega arith
-some Line e = omega arith
-some Names e = omega arith
-some Rules e = omega arith
-some Atoms e = omega arith
-some Folds e = omega arith
-some IllFormed e = omega arith
-some StartLost e = omega arith
-some LongWritten e = omega arith
-some LongName e = omega arith
-some BarredByte e = omega arith
-some ReservedByte e = omega arith
-some UnsettledEntry e = omega arith
-
 -- tables that are refused are too short, which is number 1, or ill formed, which is 10
 pub refused_tables : (b : InUse) (cause : Refusal) → number_of cause ≡ tables_cause b
     → ((short_rules b.tables ≡ true) × (number_of cause ≡ 1))
@@ -73,5 +53,5 @@ refused_tables b cause e =
     (λ t. inl (t, e ∙ pick_true _ _ t))
     (λ t.
     either (formed_tables b.tables b.counts)
-    (λ u. absurd (some cause (e ∙ pick_false _ _ t ∙ pick_true _ _ u)))
+    (λ u. absurd (number_some cause (e ∙ pick_false _ _ t ∙ pick_true _ _ u)))
     (λ u. inr (t, u, e ∙ pick_false _ _ t ∙ pick_false _ _ u)))

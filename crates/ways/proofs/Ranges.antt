@@ -1,37 +1,17 @@
--- What `all` over a range answers, the test of every number below its end; and the count over the front of a list.
+-- The front of a list: the count over it, and its elements.
 -- Assumes nothing.
-use mathlib.Core.Path.{◌≡◌, refl, sym, ap, subst, ◌∙◌}
-use mathlib.Core.Bool.{Bool, true, false}
+use mathlib.Core.Path.{◌≡◌, refl, sym, ap, ◌∙◌}
 use mathlib.Core.List.{List}
 use Prim.Native.Nat.{ℕ, zero, suc, ◌+◌, ◌≤◌, ◌<◌}
-use native.Mathlib.Nat.{zero-add}
 use native.Mathlib.Numerals.{add-one}
 use native.Mathlib.Omega.{arith}
 use lib.ListN.{length, get_or, take}
-use Rattle.std.specs.Bool.{MatchBool}
-use Rattle.std.specs.List.{count_by, range_with_len, AllWithin, HoldsAt}
-use Rattle.std.proofs.lemmas.List.FromFn.{length-range_with_len, get_or-range_with_len}
+use Rattle.std.specs.List.{count_by}
 use Rattle.std.proofs.lemmas.List.{get_or-take, get_or_default, length-take-le}
 use Rattle.std.proofs.lemmas.List.Sums.{count_by_more_yes, count_by_more_no}
-use Rattle.sets.specs.Set.{Set, every, count}
+use Rattle.sets.specs.Set.{Set, count}
 use Rattle.sets.proofs.Logic.{either}
 use Rattle.sets.proofs.Counting.{count_in, count_out}
-use Rattle.sets.proofs.Tests.{every_make}
-use Rattle.sets.proofs.Every.{every_off}
-
-pub every_of_range : (n : ℕ) (p : Set) (r : Bool)
-    → MatchBool r (AllWithin (λ x. p x ≡ true) (range_with_len 0 n) 0 (length (range_with_len 0 n)))
-    ((k : ℕ) × (k < length (range_with_len 0 n)) × HoldsAt (λ x. p x ≡ false) (range_with_len 0 n) k)
-    → r ≡ every n p
-every_of_range n p true h =
-    sym
-    (every_make n p (λ i l.
-    subst (λ (x : ℕ). p x ≡ true) (get_or-range_with_len 0 n i 0 l ∙ zero-add i)
-    (h i 0 (omega arith) (omega (arith, length-range_with_len 0 n)))))
-every_of_range n p false h =
-    let (k, b, e) = h in
-    let l : k < n = omega (arith, length-range_with_len 0 n) in
-    every_off k n p l (subst (λ (x : ℕ). p x ≡ false) (get_or-range_with_len 0 n k 0 l ∙ zero-add k) (e 0))
 
 -- the count over the first m elements of a list, element by element
 pub count_front : (m : ℕ) (xs : List ℕ) (f : Set) → m ≤ length xs → count_by f (take m xs) ≡ count m (λ j. f (get_or xs j 0))

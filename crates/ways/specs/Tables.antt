@@ -8,6 +8,15 @@ use Rattle.tables.specs.Areas.{RuleTables, Counts}
 use Rattle.systems.specs.Standardise.{short_rules, formed_tables}
 use Rattle.systems.specs.Claims.{TablesLong}
 
+-- one past the largest number that a head can be
+abbrev pub head_end : ℕ
+head_end = 65536
+
+-- heads and bodies, and how many rules are in use
+pub record CountedRules : Type 0 where
+  pub tables : RuleTables
+  pub count : ℕ
+
 -- heads and bodies, and their counts
 pub record InUse : Type 0 where
   pub tables : RuleTables

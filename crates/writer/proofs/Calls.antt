@@ -1,4 +1,4 @@
--- The outcomes of the call.
+-- What is judged, and the outcomes of the call.
 -- Assumes nothing.
 use mathlib.Core.Path.{◌≡◌, refl, sym, ap, ap₂, subst, ◌∙◌}
 use mathlib.Core.List.{List}
@@ -8,155 +8,170 @@ use native.Mathlib.Omega.{arith}
 use lib.Dec.{eqb, ltb}
 use lib.ListN.{length}
 use borrow.Author.Tests.{eq-eqb, ne_eqb, ltb-false, lt-ltb, le-ltb}
-use Rattle.std.proofs.Common.{Option, Some, None, Result, Ok, Err}
+use Rattle.std.proofs.Common.{Option, Result, Ok, Err}
 use Rattle.std.specs.Option.{ok_or}
-use Rattle.std.specs.Result.{IsErr, IsErrAnd}
+use Rattle.std.specs.Result.{IsErr, IsErrAnd, IfOk}
 use Rattle.std.specs.Bool.{then_some}
 use Rattle.limits.specs.Refusal.{number_of, number_in, count_in}
 use Rattle.limits.specs.declared.Refusal.{Refusal}
-use Rattle.limits.specs.declared.Refusal.TheVariants.{ShortArea, LongText, Mark, LastByte, Line, Names, Rules, Atoms, Folds, IllFormed}
-use Rattle.limits.specs.declared.Refusal.TheVariants.{StartLost, LongWritten, LongName, BarredByte, ReservedByte, UnsettledEntry}
+use Rattle.limits.specs.declared.Refusal.TheVariants.{ShortArea, IllFormed}
+use Rattle.limits.proofs.Numbers.{number_some}
 use Rattle.limits.specs.Book.{text_bytes, name_area, rules, body_area}
 use Rattle.sets.specs.Set.{pick}
-use Rattle.sets.proofs.Logic.{or_none, pick_true, pick_false}
+use Rattle.sets.proofs.Logic.{either, or_none, pick_true, pick_false}
 use Rattle.grammar.specs.Bytes.{Bytes, letters}
 use Rattle.grammar.specs.Letters.{letters_cause}
-use Rattle.grammar.proofs.Letters.{letters_pass}
-use Rattle.tables.specs.Areas.{Areas, rules_of, short, names_in, rules_in}
+use Rattle.scan.proofs.Tables.{short_first, table_next}
+use Rattle.tables.specs.Areas.{Areas, short}
 use Rattle.areas.specs.Area.{begun, cleared}
-use Rattle.tables.specs.Writing.{written, well_formed, placed, Written, unwritten, write_call}
+use Rattle.tables.specs.Writing.{well_formed, placed, Written, unwritten, write_call}
 use Rattle.areas.proofs.Begun.{length_begun}
 use Rattle.areas.proofs.Filled.{begun_filled}
 use Rattle.tablecheck.specs.declared.Tables.{Tables}
 use Rattle.writer.specs.Short.{short_write}
 use Rattle.writer.specs.Spelt.{text_of}
+use Rattle.writer.specs.Judged.{counted, write_cause}
 
--- every cause has a number
-number_some : (cause : Refusal) → number_of cause ≡ 0 → ⊥
-number_some ShortArea e = omega arith
-number_some LongText e = omega arith
-number_some Mark e = omega arith
-number_some LastByte e = omega arith
-number_some Line e = omega arith
-number_some Names e = omega arith
-number_some Rules e = omega arith
-number_some Atoms e = omega arith
-number_some Folds e = omega arith
-number_some IllFormed e = omega arith
-number_some StartLost e = omega arith
-number_some LongWritten e = omega arith
-number_some LongName e = omega arith
-number_some BarredByte e = omega arith
-number_some ReservedByte e = omega arith
-number_some UnsettledEntry e = omega arith
+-- `low` is whether an area is too short
+module _ (s h b t : ℕ) (low : Bool) (e : low ≡ short_write s h b t) (k : low ≡ false) where
+  enough : (name_area ≤ s) × (rules ≤ h) × (body_area ≤ b) × (text_bytes ≤ t)
+  unfolding short_write
+  enough =
+      let p = or_none (ltb s name_area || (ltb h rules || ltb b body_area)) (ltb t text_bytes) (sym e ∙ k) in
+      let q = or_none (ltb s name_area) (ltb h rules || ltb b body_area) p.0 in
+      let u = or_none (ltb h rules) (ltb b body_area) q.1 in
+      (ltb-false s name_area q.0, ltb-false h rules u.0, ltb-false b body_area u.1, ltb-false t text_bytes p.1)
 
--- the tables that judging gives, where it gives some
-judged : (formed : Bool) (lent tables : Tables) (r : Option Tables) → r ≡ then_some formed lent → r ≡ Some tables → (formed ≡ true) × (tables ≡ lent)
-judged true lent tables r e f = (refl, cc)
-judged false lent tables r e f = cc
+  -- each is long enough where none is
+  pub areas_long : (name_area ≤ s) × (rules ≤ h) × (body_area ≤ b)
+  areas_long = (enough.0, enough.1, enough.2)
 
--- and where it gives none
-not_judged : (formed : Bool) (lent : Tables) (r : Option Tables) → r ≡ then_some formed lent → r ≡ None → formed ≡ false
-not_judged true lent r e f = cc
-not_judged false lent r e f = refl
+  text_long : text_bytes ≤ t
+  text_long = enough.3
 
--- which refuses
-ill_formed : (r : Option Tables) (cause : Refusal) → r ≡ None → Err cause ≡ ok_or r IllFormed → cause ≡ IllFormed
-ill_formed None cause e f = cc
-ill_formed (Some t) cause e f = cc
+-- what is known where the table passes: it has no cause, and its letters are those that judging gives
+passes : (table : List ℕ) (judged : Result (List ℕ) Refusal) (folding : List ℕ) → number_in judged ≡ letters_cause false table
+    → IfOk judged (λ it. it ≡ table) → judged ≡ Ok folding → (letters_cause false table ≡ 0) × (folding ≡ table)
+passes table (Ok it) folding n i w = (sym n, cc)
+passes table (Err cause) folding n i w = cc
+
+-- tables in order or not, as judging them answers it
+formed_or : (formed : Bool) (lent : Tables) (r : Option Tables) (out : Result Tables Refusal) → r ≡ then_some formed lent → out ≡ ok_or r IllFormed
+    → (number_in out ≡ pick formed 0 10) × IfOk out (λ t. t ≡ lent)
+unfolding pick
+formed_or true lent r out e f = subst (λ o. (number_in o ≡ 0) × IfOk o (λ t. t ≡ lent)) (sym (f ∙ ap (λ q. ok_or q IllFormed) e)) (refl, refl)
+formed_or false lent r out e f = subst (λ o. (number_in o ≡ 10) × IfOk o (λ t. t ≡ lent)) (sym (f ∙ ap (λ q. ok_or q IllFormed) e)) (refl, tt)
+
+-- the lent areas, `low` where one of them or the text's is too short
+module _ (table : List ℕ) (o : Areas) (n m room : ℕ) (low : Bool)
+    (e : low ≡ short_write (length o.spellings) (length o.heads) (length o.bodies) room) where
+  -- the number by what is judged first
+  abbrev cause_by : ℕ → ℕ
+  cause_by k = pick (eqb k 0) (pick (well_formed (letters table) o n m) 0 10) k
+
+  same : cause_by (letters_cause low table) ≡ write_cause table o n m room
+  unfolding write_cause short short_write
+  same = ap cause_by (ap (λ (x : Bool). letters_cause x table) e)
+
+  -- what is judged first has a number: 1, 20, 21
+  first : (cause : Refusal) → number_of cause ≡ letters_cause low table → number_of cause ≡ write_cause table o n m room
+  first cause c = sym (pick_false _ _ (ne_eqb (number_of cause) 0 (number_some cause))) ∙ ap cause_by c ∙ same
+
+  -- an area too short: 1
+  pub cause_short : low ≡ true → 1 ≡ write_cause table o n m room
+  cause_short k = first ShortArea (short_first low table k)
+
+  -- no area is; `passed` is what judging the table answers
+  module _ (k : low ≡ false) (passed : Result (List ℕ) Refusal) (c : number_in passed ≡ letters_cause false table) where
+    -- a table that does not pass: 20, 21
+    pub cause_table : (cause : Refusal) → passed ≡ Err cause → (out : Result Tables Refusal) → IsErr out × IsErrAnd out (λ x. x ≡ cause)
+        → number_in out ≡ write_cause table o n m room
+    cause_table cause w (Ok t) x = absurd x.1
+    cause_table cause w (Err y) x =
+        ap number_of x.1 ∙ first cause (table_next low table (number_of cause) k (sym (ap number_in w) ∙ c))
+
+    -- one that passes, with letters by which the tables are judged: 10, or none
+    pub cause_formed : IfOk passed (λ it. it ≡ table) → (folding : List ℕ) → passed ≡ Ok folding → (r : Option Tables)
+        → r ≡ then_some (well_formed (letters folding) o n m) (counted o n m) → (out : Result Tables Refusal) → out ≡ ok_or r IllFormed
+        → (number_in out ≡ write_cause table o n m room) × IfOk out (λ t. (t ≡ counted o n m) × (text_bytes ≤ room))
+    cause_formed i folding w r g out f =
+        let p = passes table passed folding c i w in
+        let none : letters_cause low table ≡ 0 = sym (table_next low table 0 k (sym p.0)) in
+        let j = formed_or _ _ r out (g ∙ ap (λ (x : List ℕ). then_some (well_formed (letters x) o n m) (counted o n m)) p.1) f in
+        (j.0 ∙ sym (pick_true _ _ (eq-eqb _ 0 none)) ∙ same, long out j.1)
+      where
+        long : (q : Result Tables Refusal) → IfOk q (λ t. t ≡ counted o n m) → IfOk q (λ t. (t ≡ counted o n m) × (text_bytes ≤ room))
+        long (Ok t) h = (h, text_long _ _ _ _ low e k)
+        long (Err y) h = tt
 
 -- what the call answers and leaves
 abbrev pub gives : Result ℕ Refusal → Bytes → Written
 gives r area = record { number = number_in r; size = count_in (λ (k : ℕ). k) r; text = area }
 
--- a refusal that is passed on
-passed_on : (cause : Refusal) (area : Bytes) (r : Result ℕ Refusal) → IsErr r × IsErrAnd r (λ e. e ≡ cause)
-    → gives r area ≡ unwritten (number_of cause) area
-passed_on cause area (Ok k) e = absurd e.1
-passed_on cause area (Err x) e = ap (λ (c : Refusal). unwritten (number_of c) area) e.1
-
--- where nothing is judged first, each area is long enough; `low` is whether one is too short
-module _ (table : List ℕ) (s h b t : ℕ) (low : Bool) (e : low ≡ short_write s h b t) (c : letters_cause low table ≡ 0) where
-  enough : (name_area ≤ s) × (rules ≤ h) × (body_area ≤ b) × (text_bytes ≤ t)
-  unfolding short_write
-  enough =
-      let f = ((letters_pass low (λ x. x, λ x. x) table).0 c).0 in
-      let p = or_none (ltb s name_area || (ltb h rules || ltb b body_area)) (ltb t text_bytes) (sym e ∙ f) in
-      let q = or_none (ltb s name_area) (ltb h rules || ltb b body_area) p.0 in
-      let u = or_none (ltb h rules) (ltb b body_area) q.1 in
-      (ltb-false s name_area q.0, ltb-false h rules u.0, ltb-false b body_area u.1, ltb-false t text_bytes p.1)
-
-  pub areas_long : (name_area ≤ s) × (rules ≤ h) × (body_area ≤ b)
-  areas_long = (enough.0, enough.1, enough.2)
-
-  pub text_long : text_bytes ≤ t
-  text_long = enough.3
-
--- `low` is whether an area is too short
-module _ (table : List ℕ) (o : Areas) (n m : ℕ) (area : Bytes) (low : Bool)
-    (e : low ≡ short_write (length o.spellings) (length o.heads) (length o.bodies) (length area)) where
-  -- the text of the tables
+-- the call by the number of what is judged
+module _ (table : List ℕ) (o : Areas) (n m : ℕ) (area : Bytes) where
   abbrev book : Bytes
-  book = written (names_in o.spellings n) (rules_in (rules_of o) m)
+  book = text_of (counted o n m)
 
-  -- the tables as judging gives them
-  abbrev lent : Tables
-  lent = record { names = record { area = o.spellings; count = n }; rules = record { tables = rules_of o; count = m } }
+  by_cause : write_call table o n m area
+      ≡ pick (eqb (write_cause table o n m (length area)) 0) (placed book area) (unwritten (write_cause table o n m (length area)) area)
+  unfolding write_call write_cause
+  by_cause =
+      let cause : ℕ = letters_cause (short o || ltb (length area) text_bytes) table in
+      let by : ℕ → Written = λ i. pick (eqb i 0) (placed book area) (unwritten i area) in
+      either (eqb cause 0)
+      (λ t.
+      either (well_formed (letters table) o n m)
+      (λ f. pick_true _ _ t ∙ pick_true _ _ f ∙ sym (ap by (pick_true _ _ t ∙ pick_true _ _ f) ∙ pick_true _ _ refl))
+      (λ f. pick_true _ _ t ∙ pick_false _ _ f ∙ sym (ap by (pick_true _ _ t ∙ pick_false _ _ f) ∙ pick_false _ _ refl)))
+      (λ t. pick_false _ _ t ∙ sym (ap by (pick_false _ _ t) ∙ pick_false _ _ t))
 
-  -- the call by what is judged first, with any number for it
-  abbrev call : ℕ → Written
-  call k = pick (eqb k 0) (pick (well_formed (letters table) o n m) (placed book area) (unwritten 10 area)) (unwritten k area)
-
-  same : call (letters_cause low table) ≡ write_call table o n m area
-  unfolding write_call short short_write
-  same = ap call (ap (λ (x : Bool). letters_cause x table) e)
-
-  -- an area too short or a table that does not pass: 1, 20, 21
-  pub call_first : (cause : Refusal) → number_of cause ≡ letters_cause low table → (r : Result ℕ Refusal) → IsErr r × IsErrAnd r (λ e. e ≡ cause)
-      → gives r area ≡ write_call table o n m area
-  call_first cause c r x = passed_on cause area r x ∙ sym (pick_false _ _ (ne_eqb (number_of cause) 0 (number_some cause))) ∙ ap call c ∙ same
-
-  -- nothing is judged first; r is what judging the tables gives, by a folding that is the table
-  module _ (z : letters_cause low table ≡ 0) (folding : List ℕ) (k : folding ≡ table) (r : Option Tables)
-      (g : r ≡ then_some (well_formed (letters folding) o n m) lent) where
-    by_table : r ≡ then_some (well_formed (letters table) o n m) lent
-    by_table = g ∙ ap (λ (f : List ℕ). then_some (well_formed (letters f) o n m) lent) k
-
-    -- ill formed tables: 10
-    pub call_bad : r ≡ None → (cause : Refusal) → Err cause ≡ ok_or r IllFormed → (out : Result ℕ Refusal) → IsErr out × IsErrAnd out (λ e. e ≡ cause)
+  -- `judged` is what judging answers
+  module _ (judged : Result Tables Refusal) (c : number_in judged ≡ write_cause table o n m (length area)) where
+    -- a refusal
+    pub call_refused : (cause : Refusal) → judged ≡ Err cause → (out : Result ℕ Refusal) → IsErr out × IsErrAnd out (λ x. x ≡ cause)
         → gives out area ≡ write_call table o n m area
-    call_bad h cause c out x =
-        passed_on cause area out x ∙ ap (λ (e : Refusal). unwritten (number_of e) area) (ill_formed r cause h c)
-        ∙ sym (pick_true _ _ (eq-eqb _ 0 z) ∙ pick_false _ _ (not_judged _ _ r by_table h)) ∙ same
+    call_refused cause w (Ok k) x = absurd x.1
+    call_refused cause w (Err y) x =
+        let k : number_of cause ≡ write_cause table o n m (length area) = sym (ap number_in w) ∙ c in
+        ap (λ (z : Refusal). unwritten (number_of z) area) x.1 ∙ sym (pick_false _ _ (ne_eqb (number_of cause) 0 (number_some cause)))
+        ∙ ap (λ (i : ℕ). pick (eqb i 0) (placed book area) (unwritten i area)) k ∙ sym by_cause
 
-    -- tables t, in order; `size` is how long their text is
-    module _ (t : Tables) (h : r ≡ Some t) (size : ℕ) (q : size ≡ length (text_of t)) where
+    -- tables t; `size` is how long their text is
+    module _ (t : Tables) (w : judged ≡ Ok t) (i : IfOk judged (λ t. (t ≡ counted o n m) × (text_bytes ≤ length area))) (size : ℕ)
+        (q : size ≡ length (text_of t)) where
+      known : (t ≡ counted o n m) × (text_bytes ≤ length area)
+      known = subst (λ (r : Result Tables Refusal). IfOk r (λ t. (t ≡ counted o n m) × (text_bytes ≤ length area))) w i
+
       text_is : text_of t ≡ book
-      text_is = ap text_of (judged _ _ t r by_table h).1
+      text_is = ap text_of known.0
 
       long : size ≡ length book
       long = q ∙ ap length text_is
 
       -- their text is placed
       formed : placed book area ≡ write_call table o n m area
-      formed = sym (pick_true _ _ (eq-eqb _ 0 z) ∙ pick_true _ _ (judged _ _ t r by_table h).0) ∙ same
+      formed = sym (by_cause ∙ pick_true _ _ (eq-eqb _ 0 (sym c ∙ ap number_in w)))
 
       -- a text too long: 12
       pub call_long : text_bytes < size → unwritten 12 area ≡ write_call table o n m area
       unfolding placed
       call_long l = sym (pick_true _ _ (ap (ltb text_bytes) (sym long) ∙ lt-ltb text_bytes size l)) ∙ formed
 
-      -- the text, zero after it: 0
-      pub call_done : (new out : Bytes) → size ≤ text_bytes → new ≡ begun (text_of t) area → out ≡ cleared size text_bytes new
-          → record { number = 0; size = size; text = out } ≡ write_call table o n m area
-      unfolding placed
-      call_done new out l u v =
-          ap₂ (λ (s : ℕ) (x : Bytes). record { number = 0; size = s; text = x }) long
-          (v ∙ ap₂ (λ (s : ℕ) (x : Bytes). cleared s text_bytes x) long (u ∙ ap (λ (b : Bytes). begun b area) text_is)
-          ∙ begun_filled text_bytes book area (subst (λ (s : ℕ). s ≤ text_bytes) long l))
-          ∙ sym (pick_false _ _ (ap (ltb text_bytes) (sym long) ∙ le-ltb text_bytes size l)) ∙ formed
+      -- one that fits the area, and leaves it long enough to be cleared
+      module _ (l : size ≤ text_bytes) where
+        pub text_fits : length (text_of t) ≤ length area
+        text_fits = omega (arith, q, known.1)
 
--- an area begun with a text that fits is long enough to clear
-pub text_fits : (size : ℕ) (book area new : Bytes) → size ≡ length book → size ≤ text_bytes → text_bytes ≤ length area → new ≡ begun book area
-    → text_bytes ≤ length new
-text_fits size book area new g l h q = omega (arith, ap length q, length_begun book area (omega arith))
+        pub still_long : (new : Bytes) → new ≡ begun (text_of t) area → text_bytes ≤ length new
+        still_long new u = omega (arith, ap length u, length_begun (text_of t) area text_fits, known.1)
+
+        -- the text, zero after it: 0
+        pub call_done : (new out : Bytes) → new ≡ begun (text_of t) area → out ≡ cleared size text_bytes new
+            → record { number = 0; size = size; text = out } ≡ write_call table o n m area
+        unfolding placed
+        call_done new out u v =
+            ap₂ (λ (s : ℕ) (x : Bytes). record { number = 0; size = s; text = x }) long
+            (v ∙ ap₂ (λ (s : ℕ) (x : Bytes). cleared s text_bytes x) long (u ∙ ap (λ (b : Bytes). begun b area) text_is)
+            ∙ begun_filled text_bytes book area (subst (λ (s : ℕ). s ≤ text_bytes) long l))
+            ∙ sym (pick_false _ _ (ap (ltb text_bytes) (sym long) ∙ le-ltb text_bytes size l)) ∙ formed

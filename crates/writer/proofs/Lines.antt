@@ -1,82 +1,73 @@
--- The written text in the order in which the code comes to it: names, a body from stop to stop, rules.
+-- The written text in the order in which the code comes to it: names, rules.
 -- Assumes nothing.
 use mathlib.Core.Path.{◌≡◌, refl, sym, ap, ap₂, ◌∙◌}
 use mathlib.Core.List.{List, [], ◌∷◌, ◌++◌, map}
 use Prim.Native.Nat.{ℕ, suc, ◌+◌, ◌-◌, ◌*◌, ◌≤◌, ◌<◌}
 use native.Mathlib.Numerals.{add-one}
 use native.Mathlib.Omega.{arith}
-use lib.ListN.{get_or, get_or-eq_default}
-use Rattle.limits.specs.Book.{names, body_words}
-use Rattle.sets.specs.Set.{next, members}
+use lib.Dec.{ltb}
+use lib.ListN.{length, get_or, get_or-eq_default}
+use borrow.Author.Tests.{ltb-true, ltb-false}
+use Rattle.limits.specs.Book.{names, name_bytes, body_words, word_bits}
+use Rattle.sets.specs.Set.{members}
+use Rattle.sets.proofs.Logic.{either}
 use Rattle.areas.specs.Area.{part}
 use Rattle.words.specs.Row.{row}
+use Rattle.rows.specs.Members.{atoms_from}
 use Rattle.grammar.specs.Bytes.{Bytes, colon, space, line_end}
 use Rattle.grammar.specs.Grammar.{mark, joined}
-use Rattle.tables.specs.Areas.{RuleTables, rule_tables, name_at, names_in, rule_at, rules_from, rules_in}
+use Rattle.tables.specs.Areas.{RuleTables, names_in, rule_at, rules_from, rules_in}
 use Rattle.tables.specs.Writing.{spaced_on, spaced, rule_text, written}
-use Rattle.tables.proofs.Encoding.{length_names_from, get_or_names_from}
-use Rattle.tablecheck.proofs.Walks.{onward, stop_at, stop_here, stop_on, stop_none}
-use Rattle.writer.specs.Spelt.{name_spelt, names_past}
+use Rattle.tables.proofs.Encoding.{name_fits, length_names_from, get_or_names_from}
+use Rattle.tablecheck.specs.Lent.{Names}
+use Rattle.tablecheck.specs.declared.Tables.{Tables}
+use Rattle.writer.specs.Spelt.{name_spelt, rest_of, name_of, rest, line}
 
--- a number below n has a name
-pub spelt_yes : (area : Bytes) (n a : ℕ) → a < n → name_spelt area n a ≡ name_at area a
-unfolding name_spelt
-spelt_yes area n a l = let e : 0 + a ≡ a = omega arith in get_or_names_from area n 0 a l ∙ ap (name_at area) e
+-- no name is longer than its row
+pub name_small : (t : Names) (a : ℕ) → length (name_of t a) ≤ name_bytes
+name_small t a =
+    either (ltb a t.count)
+    (λ l. omega (arith, ap length (get_or_names_from t.area t.count 0 a (ltb-true a t.count l)), name_fits t.area (0 + a)))
+    (λ l. omega (
+      arith,
+      ap length (get_or-eq_default (names_in t.area t.count) [] {n = a}
+          (omega (arith, length_names_from t.area t.count 0, ltb-false a t.count l))),
+    ))
 
--- another has none
-pub spelt_no : (area : Bytes) (n a : ℕ) → n ≤ a → name_spelt area n a ≡ []
-unfolding name_spelt
-spelt_no area n a l = get_or-eq_default (names_in area n) [] {n = a} (omega (arith, length_names_from area n 0))
+-- the names after a walk has come to its end, and before it comes to name a
+pub rest_end : (t : Names) (xs : List ℕ) → xs ≡ [] → rest t xs ≡ []
+unfolding rest spaced_on
+rest_end t xs e = ap (λ (xs : List ℕ). spaced_on (map (name_of t) xs)) e
 
--- the names of the body in `words` from the stop a on, each after a space
-unfoldable pub after : Bytes → ℕ → List ℕ → ℕ → Bytes
-after area n words a = spaced_on (map (name_spelt area n) (onward names (row words) a))
+pub rest_on : (t : Names) (xs more : List ℕ) (a : ℕ) → xs ≡ a ∷ more → rest t xs ≡ space ∷ (name_of t a ++ rest t more)
+unfolding rest spaced_on
+rest_on t xs more a e = ap (λ (xs : List ℕ). spaced_on (map (name_of t) xs)) e
 
-module _ (area : Bytes) (n : ℕ) (words : List ℕ) where
-  -- from the first stop on
-  pub after_start : (from a : ℕ) → from ≤ names → a ≡ next (names - from) (row words) from → names_past area n words from ≡ after area n words a
-  unfolding names_past after
-  after_start from a l e = ap (λ (xs : List ℕ). spaced_on (map (name_spelt area n) xs)) (stop_at names (row words) from a l e)
+-- a walk from name a on over the body at place `at` has before it the rest of that body
+pub rest_is : (area : Bytes) (n : ℕ) (bodies : List ℕ) (at a : ℕ) (words : List ℕ) → words ≡ part at body_words bodies → length words ≡ body_words
+    → rest (record { area = area; count = n }) (atoms_from words a) ≡ rest_of area n bodies at a
+unfolding rest rest_of name_spelt atoms_from
+rest_is area n bodies at a words e l =
+    let k : length words * word_bits - a ≡ names - a = omega (arith, l) in
+    ap₂ (λ (w : ℕ) (xs : List ℕ). spaced_on (map (λ i. get_or (names_in area n) i []) (members w (row xs) a))) k e
 
-  -- a space, a name, and those after it
-  pub after_on : (a r : ℕ) → a < names → r ≡ next (names - (a + 1)) (row words) (a + 1)
-      → after area n words a ≡ space ∷ (name_spelt area n a ++ after area n words r)
-  unfolding after spaced_on
-  after_on a r l e = ap (λ (xs : List ℕ). spaced_on (map (name_spelt area n) xs)) (stop_on names (row words) a r l e)
+-- the body as its line has it: nothing, or a first name and the rest
+unfoldable pub body_text : Names → List ℕ → Bytes
+body_text t xs = spaced (map (name_of t) xs)
 
-  -- none at the end
-  pub after_end : (a : ℕ) → names ≤ a → after area n words a ≡ []
-  unfolding after spaced_on
-  after_end a l = ap (λ (xs : List ℕ). spaced_on (map (name_spelt area n) xs)) (stop_none names (row words) a l)
+pub body_bare : (t : Names) (xs : List ℕ) → xs ≡ [] → body_text t xs ≡ []
+unfolding body_text spaced
+body_bare t xs e = ap (λ (xs : List ℕ). spaced (map (name_of t) xs)) e
 
--- the body in `words` as its line has it
-unfoldable pub body_text : Bytes → ℕ → List ℕ → Bytes
-body_text area n words = spaced (map (name_spelt area n) (members names (row words) 0))
+pub body_full : (t : Names) (xs more : List ℕ) (a : ℕ) → xs ≡ a ∷ more → body_text t xs ≡ name_of t a ++ rest t more
+unfolding body_text spaced rest
+body_full t xs more a e = ap (λ (xs : List ℕ). spaced (map (name_of t) xs)) e
 
 -- a rule is its head, a colon and its body
-pub line_is : (area : Bytes) (n : ℕ) (heads bodies : List ℕ) (j head : ℕ) (words : List ℕ) → head ≡ get_or heads j 0
-    → words ≡ part (j * body_words) body_words bodies
-    → rule_text (names_in area n) (rule_at (rule_tables heads bodies) j) ≡ name_spelt area n head ++ (colon ∷ body_text area n words)
-unfolding rule_text rule_at name_spelt body_text
-line_is area n heads bodies j head words e f =
-    sym (ap₂ (λ (h : ℕ) (xs : List ℕ). name_spelt area n h ++ (colon ∷ body_text area n xs)) e f)
-
--- a body whose first stop is a
-module _ (area : Bytes) (n : ℕ) (words : List ℕ) (a : ℕ) (e : a ≡ next (names - 0) (row words) 0) where
-  -- the names from the first stop on
-  body : body_text area n words ≡ spaced (map (name_spelt area n) (onward names (row words) a))
-  unfolding body_text
-  body = ap (λ (xs : List ℕ). spaced (map (name_spelt area n) xs)) (stop_at names (row words) 0 a (omega arith) e)
-
-  -- an empty body
-  pub body_bare : names ≤ a → body_text area n words ≡ []
-  unfolding spaced
-  body_bare l = body ∙ ap (λ (xs : List ℕ). spaced (map (name_spelt area n) xs)) (stop_none names (row words) a l)
-
-  -- one whose first name is a
-  pub body_full : a < names → body_text area n words ≡ name_spelt area n a ++ names_past area n words (a + 1)
-  unfolding spaced names_past
-  body_full l = body ∙ ap (λ (xs : List ℕ). spaced (map (name_spelt area n) xs)) (stop_here names (row words) a l)
+pub line_is : (t : Tables) (j head : ℕ) (xs : List ℕ) → head ≡ get_or t.rules.tables.heads j 0
+    → xs ≡ members names (rule_at t.rules.tables j).body 0 → line t j ≡ name_of t.names head ++ (colon ∷ body_text t.names xs)
+unfolding rule_text rule_at body_text
+line_is t j head xs e f = sym (ap₂ (λ (h : ℕ) (xs : List ℕ). name_of t.names h ++ (colon ∷ spaced (map (name_of t.names) xs))) e f)
 
 -- the lines from rule j up to m
 unfoldable pub lines_from : List Bytes → RuleTables → ℕ → ℕ → Bytes

@@ -1,80 +1,94 @@
--- A rule and the whole text of lent tables, put on a page piece by piece.
+-- A rule and the whole text of lent tables, put into an area part by part.
 -- Assumes nothing.
 use mathlib.Core.Path.{◌≡◌, refl, sym}
 use mathlib.Core.List.{List, [], ◌∷◌, ◌++◌, append-nil}
-use Prim.Native.Nat.{ℕ, ◌+◌, ◌-◌, ◌*◌, ◌<◌, ◌≤◌}
+use Prim.Native.Nat.{ℕ, ◌+◌, ◌<◌, ◌≤◌}
 use lib.ListN.{length, get_or}
-use Rattle.limits.specs.Book.{names, body_words}
-use Rattle.sets.specs.Set.{next}
-use Rattle.areas.specs.Area.{part, begun}
-use Rattle.words.specs.Row.{row}
-use Rattle.grammar.specs.Bytes.{Bytes, colon}
+use Rattle.limits.specs.Book.{names}
+use Rattle.sets.specs.Set.{members}
+use Rattle.areas.specs.Area.{begun}
+use Rattle.grammar.specs.Bytes.{Bytes, colon, space, line_end}
 use Rattle.grammar.specs.Grammar.{mark}
-use Rattle.tables.specs.Areas.{names_in}
+use Rattle.tables.specs.Areas.{RuleTables, names_in, rule_at}
+use Rattle.tables.specs.Writing.{rule_text}
+use Rattle.copying.specs.declared.text.Text.{Text}
+use Rattle.copying.specs.Text.{Room, Puts}
+use Rattle.copying.proofs.Texts.{Left, left_start, left_end, left_room, part_room, left_on, front_room, front_begun}
+use Rattle.tablecheck.specs.Lent.{Names}
 use Rattle.tablecheck.specs.declared.Tables.{Tables}
-use Rattle.writer.specs.declared.page.Page.{Page}
-use Rattle.writer.specs.Pages.{Room, Puts}
-use Rattle.writer.specs.Spelt.{name_of, names_past, line, lines, text_of}
-use Rattle.writer.proofs.Lines.{body_text, line_is, body_bare, body_full, written_is}
-use Rattle.writer.proofs.Pages.{Left, left_start, left_end, left_room, piece_room, left_on, front_room, front_begun}
+use Rattle.writer.specs.Spelt.{name_of, rest, line, lines, text_of}
+use Rattle.writer.proofs.Lines.{rest_on, body_text, line_is, body_bare, body_full, written_is, lines_from, lines_on}
 
--- rule j, put on page p: its head, a colon, its first name and the rest
-module _ (t : Tables) (j : ℕ) (p : Page) (fits : Room p (line t j)) where
+-- rule j, put from text x on: its head, a colon, its first name and the rest
+module _ (t : Tables) (j : ℕ) (x : Text) (room : Room x (line t j)) {head : ℕ} (s : head ≡ get_or t.rules.tables.heads j 0)
+    {name : Bytes} (f : name ≡ name_of t.names head) where
   -- there is room for the head
-  pub head_room : {head : ℕ} → head ≡ get_or t.rules.tables.heads j 0 → {xs : Bytes} → xs ≡ name_of t.names head → Room p xs
-  head_room s f = piece_room fits (left_start p (line t j)) _ _ (line_is _ _ _ _ j _ _ s refl) f
+  pub head_room : Room x name
+  head_room = part_room room (left_start x (line t j)) _ _ (line_is t j head _ s refl) f
 
   -- the head is put, and then the colon
-  module _ {head : ℕ} (s : head ≡ get_or t.rules.tables.heads j 0) {xs : Bytes} (f : xs ≡ name_of t.names head) {q : Page} (u : Puts p q xs)
-      {words : List ℕ} (w : words ≡ part (j * body_words) body_words t.rules.tables.bodies) where
-    headed : Left p q (line t j) (colon ∷ body_text t.names.area t.names.count words)
-    headed = left_on fits (left_start p (line t j)) _ _ (line_is _ _ _ _ j _ words s w) f u
+  module _ {y : Text} (u : Puts x name y) where
+    headed : (xs : List ℕ) → xs ≡ members names (rule_at t.rules.tables j).body 0 → Left x (line t j) (colon ∷ body_text t.names xs) y
+    headed xs p = left_on (left_start x (line t j)) (line_is t j head xs s p) f u
 
-    pub colon_room : Room q (colon ∷ [])
-    colon_room = piece_room fits headed (colon ∷ []) _ refl refl
+    pub colon_room : Room y (colon ∷ [])
+    colon_room = part_room room (headed _ refl) (colon ∷ []) _ refl refl
 
-    module _ {r : Page} (v : Puts q r (colon ∷ [])) {a : ℕ} (e : a ≡ next (names - 0) (row words) 0) where
-      parted : Left p r (line t j) (body_text t.names.area t.names.count words)
-      parted = left_on fits headed (colon ∷ []) _ refl refl v
+    module _ {z : Text} (v : Puts y (colon ∷ []) z) (xs : List ℕ) (p : xs ≡ members names (rule_at t.rules.tables j).body 0) where
+      parted : Left x (line t j) (body_text t.names xs) z
+      parted = left_on {first = colon ∷ []} (headed xs p) refl refl v
 
       -- an empty body
-      pub bare_done : names ≤ a → Puts p r (line t j)
-      bare_done l = left_end parted (body_bare _ _ words a e l)
+      pub bare_done : xs ≡ [] → Puts x (line t j) z
+      bare_done e = left_end parted (body_bare t.names xs e)
 
       -- one whose first name is a
-      module _ (l : a < names) {ys : Bytes} (g : ys ≡ name_of t.names a) where
-        pub first_room : Room r ys
-        first_room = piece_room fits parted _ _ (body_full _ _ words a e l) g
+      module _ (a : ℕ) (more : List ℕ) (e : xs ≡ a ∷ more) {first : Bytes} (g : first ≡ name_of t.names a) where
+        pub first_room : Room z first
+        first_room = part_room room parted _ _ (body_full t.names xs more a e) g
 
         -- which is put, and then the rest
-        module _ {m : Page} (x : Puts r m ys) where
-          named : Left p m (line t j) (names_past t.names.area t.names.count words (a + 1))
-          named = left_on fits parted _ _ (body_full _ _ words a e l) g x
+        module _ {m : Text} (w : Puts z first m) where
+          named : Left x (line t j) (rest t.names more) m
+          named = left_on parted (body_full t.names xs more a e) g w
 
-          pub names_room : Room m (names_past t.names.area t.names.count words (a + 1))
-          names_room = left_room fits named
+          pub names_room : Room m (rest t.names more)
+          names_room = left_room room named
 
-          pub full_done : {o : Page} → Puts m o (names_past t.names.area t.names.count words (a + 1)) → Puts p o (line t j)
-          full_done y = left_end (left_on fits named _ [] (sym (append-nil _)) refl y) refl
+          pub full_done : {o : Text} → Puts m (rest t.names more) o → Puts x (line t j) o
+          full_done q = left_end (left_on {more = []} named (sym (append-nil _)) refl q) refl
 
--- the whole text, put on page p, at the front of an area: the mark, then the rules
-module _ (t : Tables) (p : Page) (old : Bytes) (z : p.at ≡ 0) (e : p.text.now ≡ old) (l : length (text_of t) ≤ length old) where
-  fits : Room p (text_of t)
-  fits = front_room p old z e (text_of t) l
+-- what is found of putting a rule without further words
+pub ruleset rule_steps = (head_room, colon_room, bare_done)
+
+-- the names xs, the first of them a, put after others from text x on: its space is put
+pub spaced : (t : Names) (xs more : List ℕ) (a : ℕ) {x y z : Text} {whole : Bytes} → Left x whole (rest t xs) y → xs ≡ a ∷ more
+    → Puts y (space ∷ []) z → Left x whole (name_of t a ++ rest t more) z
+spaced t xs more a s e u = left_on {first = space ∷ []} s (rest_on _ _ _ _ e) refl u
+
+-- the rules from j on, put after others from text x on: rule j is put
+pub ruled : (ns : List Bytes) (tables : RuleTables) (m j : ℕ) {x y z : Text} {whole : Bytes} → Left x whole (lines_from ns tables m j) y → j < m
+    → Puts y (rule_text ns (rule_at tables j)) z → Left x whole (line_end ∷ lines_from ns tables m (j + 1)) z
+ruled ns tables m j s l u = left_on s (lines_on _ _ _ _ l) refl u
+
+-- the whole text, put from text x on, at the front of an area: the mark, then the rules
+module _ (t : Tables) (x : Text) (old : Bytes) (front : x.end ≡ 0) (empty : x.area.now ≡ old) (l : length (text_of t) ≤ length old) where
+  room : Room x (text_of t)
+  room = front_room x old front empty (text_of t) l
 
   text_is : text_of t ≡ mark ++ lines t
   text_is = written_is (names_in t.names.area t.names.count) t.rules.tables t.rules.count
 
-  pub mark_room : Room p mark
-  mark_room = piece_room fits (left_start p (text_of t)) mark (lines t) text_is refl
+  pub mark_room : Room x mark
+  mark_room = part_room room (left_start x (text_of t)) mark (lines t) text_is refl
 
-  module _ {q : Page} (u : Puts p q mark) where
-    marked : Left p q (text_of t) (lines t)
-    marked = left_on fits (left_start p (text_of t)) mark (lines t) text_is refl u
+  module _ {y : Text} (u : Puts x mark y) where
+    marked : Left x (text_of t) (lines t) y
+    marked = left_on (left_start x (text_of t)) text_is refl u
 
-    pub lines_room : Room q (lines t)
-    lines_room = left_room fits marked
+    pub lines_room : Room y (lines t)
+    lines_room = left_room room marked
 
     -- the area begins with the text
-    pub text_done : {r : Page} → Puts q r (lines t) → r.text.now ≡ begun (text_of t) old
-    text_done v = front_begun p old z e (left_end (left_on fits marked (lines t) [] (sym (append-nil (lines t))) refl v) refl)
+    pub text_done : {z : Text} → Puts y (lines t) z → z.area.now ≡ begun (text_of t) old
+    text_done v = front_begun x old front empty (left_end (left_on {more = []} marked (sym (append-nil (lines t))) refl v) refl)

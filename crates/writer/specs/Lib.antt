@@ -1,3 +1,3 @@
 pub mod Spelt
 pub mod Short
-pub mod Pages
+pub mod Judged

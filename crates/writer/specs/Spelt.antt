@@ -16,13 +16,9 @@ use Rattle.tablecheck.specs.declared.Tables.{Tables}
 unfoldable pub name_spelt : Bytes → ℕ → ℕ → Bytes
 name_spelt area n a = get_or (names_in area n) a []
 
--- the names of the body in `words` from number a on, each after a space
-unfoldable pub names_past : Bytes → ℕ → List ℕ → ℕ → Bytes
-names_past area n words a = spaced_on (map (name_spelt area n) (members (names - a) (row words) a))
-
--- those of the body at place `at`
-abbrev pub rest_of : Bytes → ℕ → List ℕ → ℕ → ℕ → Bytes
-rest_of area n bodies at a = names_past area n (part at body_words bodies) a
+-- the names of the body at place `at` from number a on, each after a space
+unfoldable pub rest_of : Bytes → ℕ → List ℕ → ℕ → ℕ → Bytes
+rest_of area n bodies at a = spaced_on (map (name_spelt area n) (members (names - a) (row (part at body_words bodies)) a))
 
 -- rule j of heads and bodies as its line has it
 abbrev pub line_of : Bytes → List ℕ → List ℕ → ℕ → ℕ → Bytes
@@ -36,10 +32,14 @@ rule_lines area heads bodies n m = joined (map (rule_text (names_in area n)) (ru
 abbrev pub text_in : Bytes → List ℕ → List ℕ → ℕ → ℕ → Bytes
 text_in area heads bodies n m = written (names_in area n) (rules_in (rule_tables heads bodies) m)
 
--- a name of a lent name area; a line, the lines and the text of lent tables
+-- a name of a lent name area, and those with the numbers xs, each after a space
 abbrev pub name_of : Names → ℕ → Bytes
-name_of t a = name_spelt t.area t.count a
+name_of t a = get_or (names_in t.area t.count) a []
 
+unfoldable pub rest : Names → List ℕ → Bytes
+rest t xs = spaced_on (map (name_of t) xs)
+
+-- a line, the lines and the text of lent tables
 abbrev pub line : Tables → ℕ → Bytes
 line t j = line_of t.names.area t.rules.tables.heads t.rules.tables.bodies t.names.count j
 

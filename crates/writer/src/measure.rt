@@ -1,39 +1,23 @@
-// How long the text of tables is, before anything is written.
+// How long the text of tables is, before anything is written, so that a refusal leaves the area as it was. What `put` puts is counted here in the
+// same order: one walk for both would go over a trait of what takes the parts, whose laws of room and putting, and the two impls of it, say more
+// than these three functions.
 ghost use Rattle.std.specs.Prelude.{◌≡◌, ◌+◌, ◌*◌, ◌<◌, ◌≤◌, length};
-ghost use Rattle.limits.specs.Book.{names, name_bytes, rules, body_words};
-ghost use Rattle.writer.specs.Spelt.{names_past, name_of, line, text_of, line_bytes};
+ghost use Rattle.limits.specs.Book.{names, name_bytes, rules};
+ghost use Rattle.rows.specs.Members.{left};
+ghost use Rattle.writer.specs.Spelt.{rest, line, text_of, line_bytes};
 
-use limits::Book;
+use rows::members::Members;
 use scan::cursor::Cursor;
-use tablecheck::order::next_name;
+use tablecheck::order::body_names;
 use tablecheck::{NameArea, Tables};
 
-// Name a of those in use, nothing where it is none of them.
-#[tactic(auto, using(crate::proofs::Lines::spelt_yes, crate::proofs::Lines::spelt_no))]
-pub fn spelt<'a>(lent: &'a NameArea<'_>, a: usize) -> &'a [u8]
-    ensures bytes { result.now ≡ name_of lent.now a }
-    ensures bound { length result.now ≤ name_bytes }
-{
-    if a < lent.name_count() {
-        return lent.name(a);
-    }
-    &[]
-}
-
-// The length of the names of a body from number `from` on, each after a space.
-#[tactic(auto, using(crate::proofs::Lengths::rest_start))]
-pub fn rest_len(lent: &NameArea<'_>, body: &[u64], from: usize) -> usize
-    requires { (length body.now ≡ body_words) × (from ≤ names) }
-    ensures len { result ≡ length (names_past lent.now.area lent.now.count body.now from) }
+// The length of the names that a walk over a body has before it, each after a space.
+pub fn rest_len(lent: &NameArea<'_>, members: Members<'_>) -> usize
+    requires { length (left members) ≤ names }
+    ensures len { result ≡ length (rest lent.now (left members.entry)) }
     ensures bound { result ≤ names * (name_bytes + 1) }
 {
-    let mut len = 0;
-    let mut a = next_name(body, from);
-    while a < Book::NAMES {
-        len += 1 + spelt(lent, a).len();
-        a = next_name(body, a + 1);
-    }
-    len
+    members.map(|a| 1 + lent.spelt(a).len()).sum()
 }
 
 // The length of rule j, its line end aside.
@@ -43,23 +27,20 @@ pub fn rule_len(tables: &Tables<'_>, j: usize) -> usize
     ensures len { result ≡ length (line tables.now j) }
     ensures bound { result ≤ line_bytes }
 {
-    let head = spelt(&tables.names, tables.rules.head(j)).len() + 1;
-    let body = tables.rules.body(j);
-    let a = next_name(body, 0);
-    if a < Book::NAMES {
-        return head + spelt(&tables.names, a).len() + rest_len(&tables.names, body, a + 1);
+    let head = tables.names.spelt(tables.rules.head(j)).len() + 1;
+    let mut body = body_names(&tables.rules, j);
+    match body.next() {
+        Some(a) => head + tables.names.spelt(a).len() + rest_len(&tables.names, body),
+        None => head,
     }
-    head
 }
 
 // The length of the text.
-#[tactic(auto, using(crate::proofs::Lengths::text_start))]
 pub fn text_len(tables: &Tables<'_>) -> usize
     ensures { result ≡ length (text_of tables.now) }
 {
-    let mut len = Cursor::MARK_BYTES;
-    for j in 0..tables.rules.rule_count() {
-        len += rule_len(tables, j) + 1;
-    }
-    len
+    Cursor::MARK_BYTES
+        + (0..tables.rules.rule_count())
+            .map(|j| rule_len(tables, j) + 1)
+            .sum::<usize>()
 }

@@ -1,64 +1,61 @@
-// The text of tables, put on a page.
+// The text of tables, put into an area.
 ghost use Rattle.std.specs.Prelude.{◌≡◌, ◌<◌, ◌≤◌, length};
-ghost use Rattle.limits.specs.Book.{names, rules, body_words};
+ghost use Rattle.limits.specs.Book.{rules};
 ghost use Rattle.areas.specs.Area.{begun};
-ghost use Rattle.writer.specs.Spelt.{names_past, line, lines, text_of};
-ghost use Rattle.writer.specs.Pages.{Room, Puts};
+ghost use Rattle.rows.specs.Members.{left};
+ghost use Rattle.copying.specs.Text.{Room, Puts};
+ghost use Rattle.writer.specs.Spelt.{rest, line, lines, text_of};
 
-use crate::measure::spelt;
-use crate::page::Page;
-use limits::Book;
+use copying::text::Text;
+use rows::members::Members;
 use scan::cursor::Cursor;
-use tablecheck::order::next_name;
+use tablecheck::order::body_names;
 use tablecheck::{NameArea, Tables};
 
-// The names of a body from number `from` on, each after a space.
-pub fn put_rest(lent: &NameArea<'_>, body: &[u64], from: usize, page: &mut Page<'_>)
-    requires body { (length body.now ≡ body_words) × (from ≤ names) }
-    requires room { Room page.old (names_past lent.now.area lent.now.count body.now from) }
-    ensures { Puts page.old page.new (names_past lent.now.area lent.now.count body.now from) }
+// The names that a walk over a body has before it, each after a space.
+pub fn put_rest(lent: &NameArea<'_>, members: Members<'_>, text: &mut Text<'_>)
+    requires { Room text.old (rest lent.now (left members)) }
+    ensures { Puts text.old (rest lent.now (left members.entry)) text.new }
 {
-    let mut a = next_name(body, from);
-    while a < Book::NAMES {
-        page.push_byte(Cursor::SPACE);
-        page.push(spelt(lent, a));
-        a = next_name(body, a + 1);
+    for a in members {
+        text.put_byte(Cursor::SPACE);
+        text.put(lent.spelt(a));
     }
 }
 
 // Rule j, its line end aside.
-pub fn put_rule(tables: &Tables<'_>, j: usize, page: &mut Page<'_>)
+#[tactic(auto, using(crate::proofs::Rules::rule_steps))]
+pub fn put_rule(tables: &Tables<'_>, j: usize, text: &mut Text<'_>)
     requires rule { j < rules }
-    requires room { Room page.old (line tables.now j) }
-    ensures { Puts page.old page.new (line tables.now j) }
+    requires room { Room text.old (line tables.now j) }
+    ensures { Puts text.old (line tables.now j) text.new }
 {
-    page.push(spelt(&tables.names, tables.rules.head(j)));
-    page.push_byte(Cursor::COLON);
-    let body = tables.rules.body(j);
-    let a = next_name(body, 0);
-    if a < Book::NAMES {
-        page.push(spelt(&tables.names, a));
-        put_rest(&tables.names, body, a + 1, page);
+    text.put(tables.names.spelt(tables.rules.head(j)));
+    text.put_byte(Cursor::COLON);
+    let mut body = body_names(&tables.rules, j);
+    if let Some(a) = body.next() {
+        text.put(tables.names.spelt(a));
+        put_rest(&tables.names, body, text);
     }
 }
 
 // Every rule with its line end.
-pub fn put_rules(tables: &Tables<'_>, page: &mut Page<'_>)
-    requires { Room page.old (lines tables.now) }
-    ensures { Puts page.old page.new (lines tables.now) }
+pub fn put_rules(tables: &Tables<'_>, text: &mut Text<'_>)
+    requires { Room text.old (lines tables.now) }
+    ensures { Puts text.old (lines tables.now) text.new }
 {
     for j in 0..tables.rules.rule_count() {
-        put_rule(tables, j, page);
-        page.push_byte(Cursor::LINE_END);
+        put_rule(tables, j, text);
+        text.put_byte(Cursor::LINE_END);
     }
 }
 
 // The mark and the rules, from the front of the area.
-pub fn put_text(tables: &Tables<'_>, text: &mut [u8])
-    requires { length (text_of tables.now) ≤ length text.old }
-    ensures { text.new ≡ begun (text_of tables.now) text.old }
+pub fn put_text(tables: &Tables<'_>, area: &mut [u8])
+    requires { length (text_of tables.now) ≤ length area.old }
+    ensures { area.new ≡ begun (text_of tables.now) area.old }
 {
-    let mut page = Page::new(text);
-    page.push(&Cursor::MARK);
-    put_rules(tables, &mut page);
+    let mut text = Text::new(area);
+    text.put(&Cursor::MARK);
+    put_rules(tables, &mut text);
 }

@@ -13,16 +13,14 @@ pub returns-in_err-number-clause-joins : goal.returns-in_err-number-clause-joins
 returns-in_err-number-clause-joins c =
     let x = held c.args.lexicon.now in
     let y = held c.meet.new.lexicon in
-    subst (λ (o : Option ℕ). Onward (is_some c.args.head) (names_at x) (c.args.name.now ∷ []) (is_some o) y c.args.row.now c.args.row.now)
+    subst (λ (o : Option ℕ). Onward (is_some c.args.head) (names_at x) (c.args.name.now.name ∷ []) (is_some o) y c.args.row.now c.args.row.now)
     (sym c.from_residual-in_err-number.ensures)
-    (joins_full c.args.head _ x y c.requires.in_order _ c.in_ok-head.was c.meet.result c.meet.ensures.met c.in_err-number.was y c.args.row.now)
+    (joins_full _ _ _ _ c.requires.in_order _ c.in_ok-head.was _ c.meet.ensures.met c.in_err-number.was y c.args.row.now)
 
 pub insert-requires : goal.insert-requires
 insert-requires c =
-    let l = joins_low c.args.head _ (held c.args.lexicon.now) (held c.meet.new.lexicon) c.requires.in_order _ c.in_ok-head.was c.meet.result
-    c.meet.ensures.met _ c.in_ok-number.was in omega (arith, l, c.requires.row_len)
+    let l = joins_low _ _ _ _ c.requires.in_order _ c.in_ok-head.was _ c.meet.ensures.met _ c.in_ok-number.was in omega (arith, l, c.requires.row_len)
 
 pub returns-clause-joins : goal.returns-clause-joins
 returns-clause-joins c =
-    joins_one c.args.head _ (held c.args.lexicon.now) (held c.meet.new.lexicon) c.requires.in_order _ c.in_ok-head.was c.meet.result c.meet.ensures.met
-    _ c.in_ok-number.was c.args.row.now c.insert.new.words c.insert.ensures
+    joins_one _ _ _ _ c.requires.in_order _ c.in_ok-head.was _ c.meet.ensures.met _ c.in_ok-number.was c.args.row.now c.insert.new.words c.insert.ensures

@@ -1,20 +1,15 @@
 -- `ways::formed` meets its contract: within the limits, `all` tests every entry. Assumes nothing.
 use borrow.Author.Rules.{rules}
 use borrow.Author.Tests.{tests}
-use mathlib.Core.Path.{refl, ◌∙◌}
-use mathlib.Core.Bool.{true, false}
-use mathlib.Core.Path.{◌≡◌}
-use Rattle.limits.specs.Book as Book
+use mathlib.Core.Path.{◌∙◌}
+use Rattle.sets.proofs.Below.{every_below}
+use Rattle.tables.specs.Areas.{rule_tables}
 use Rattle.systems.specs.Standardise.{formed_entry}
-use Rattle.std.proofs.lemmas.Iterator.{cases_from_all, YieldsList-from_range}
 use Rattle.ways.proofs.Entries.{entries}
-use Rattle.ways.proofs.Ranges.{every_of_range}
 use Rattle.ways.proofs.formed.Goals as goal
 
 pub returns : goal.returns
 returns c =
-    let entry = formed_entry (record { heads = c.args.heads.now; bodies = c.args.bodies.now }) (record { names = c.args.n; rules = c.args.m }) in
-    every_of_range Book.rules entry _
-    (cases_from_all _ _ _ (λ x. entry x ≡ true) (λ x. entry x ≡ false) c.all.ensures.ran (YieldsList-from_range 0 Book.rules Book.rules refl refl)
-    (λ x q k. search (rules, tests)) (λ x q k. search (rules, tests)))
+    every_below (formed_entry (rule_tables c.args.heads.now c.args.bodies.now) (record { names = c.args.counts.names; rules = c.args.counts.rules }))
+    _ _ _ _ c.all.ensures.ran (λ x b q k. search (rules, tests))
     ∙ entries _ _ c.if-many_names.false c.if-many_rules.false

@@ -7,10 +7,10 @@ use Rattle.reader.proofs.Stepping.{end_room, stepped_silent, Headed, head_closed
 use Rattle.reader.proofs.RuleRows.line.Goals.{After-past_blanks-head}
 use Rattle.reader.proofs.RuleRows.line.Goals as goal
 
-headed : (c : After-past_blanks-head) → Headed (letters c.args.folding.now) c.args.text.now c.args.cursor.at c.past_blanks-head.result.at
+headed : (c : After-past_blanks-head) → Headed (letters c.args.source.now.folding.now) c.args.source.now.text.now c.args.cursor.at c.past_blanks-head.result.at
 headed c =
     record {
-      law = c.requires.text_len_bound.2.1;
+      law = c.passes.ensures.1;
       closed = c.requires.line_ends;
       plain = sym c.sees.ensures ∙ c.if-sees.false;
       blanks = ap (λ (k : Cursor). k.at) c.past_blanks-head.ensures;
@@ -19,20 +19,20 @@ headed c =
 pub next_line-requires : goal.next_line-requires
 next_line-requires c =
     let e = c.past_line-end.ensures in
-    end_room c.args.text.now c.args.cursor.at c.args.cursor.line _ _ c.requires.line_ends c.requires.text_len_bound.0 c.requires.text_len_bound.1
+    end_room c.args.source.now.text.now c.args.cursor.at c.args.cursor.line _ _ c.requires.line_ends c.args.source.now.within c.requires.place
     (ap (λ (k : Cursor). k.at) e) (ap (λ (k : Cursor). k.line) e)
 
 pub returns-then-sees-clause-steps : goal.returns-then-sees-clause-steps
 returns-then-sees-clause-steps c =
     let e = c.past_line-end.ensures in
     λ cs b. rw c.next_line.ensures (stepped_silent cs _ _ c.args.cursor.line _ _ _
-    (remark _ c.requires.text_len_bound.2.1 c.args.text.now c.args.cursor.at c.requires.line_ends (sym c.sees.ensures ∙ c.if-sees.true))
+    (remark _ c.passes.ensures.1 c.args.source.now.text.now c.args.cursor.at c.requires.line_ends (sym c.sees.ensures ∙ c.if-sees.true))
     (ap (λ (k : Cursor). k.at) e) (ap (λ (k : Cursor). k.line) e) b)
 
 pub next_line-requires-then-sees-2 : goal.next_line-requires-then-sees-2
 next_line-requires-then-sees-2 c =
     let k = headed (goal.at.next_line-requires-then-sees-2 c).After-past_blanks-head in
-    end_room c.args.text.now c.args.cursor.at c.args.cursor.line _ _ c.requires.line_ends c.requires.text_len_bound.0 c.requires.text_len_bound.1
+    end_room c.args.source.now.text.now c.args.cursor.at c.args.cursor.line _ _ c.requires.line_ends c.args.source.now.within c.requires.place
     (blank_end k (sym c.sees-2.ensures ∙ c.if-sees-2.true)) (ap (λ (k : Cursor). k.line) c.past_blanks-head.ensures)
 
 pub returns-then-sees-2-clause-steps : goal.returns-then-sees-2-clause-steps

@@ -1,5 +1,12 @@
 -- `reader::RuleRows::rule` meets its contract: each answer rests on what is known once the rule is found. Assumes nothing.
-use mathlib.Core.Path.{refl}
+use mathlib.Core.Path.{◌≡◌, refl}
+use mathlib.Core.List.{List}
+use Prim.Native.Nat.{ℕ, ◌+◌, ◌-◌, ◌≤◌}
+use lib.ListN.{length}
+use borrow.Author.Rules.{rules}
+use borrow.Rule.Slice.PartMut.{put_mid}
+use Rattle.limits.specs.Book.{body_words}
+use Rattle.reader.proofs.Lending.{back_long, back_in, back_row}
 use native.Mathlib.Omega.{arith}
 use Rattle.grammar.specs.Bytes.{letters}
 use Rattle.std.proofs.lemmas.Result.{err_from_is_err_and}
@@ -7,26 +14,35 @@ use Rattle.clause.specs.Held.{held, at_in, room_in, head_in}
 use Rattle.limits.specs.Refusal.{number_in}
 use Rattle.reader.specs.State.{tables_in}
 use Rattle.reader.proofs.Stepping.{end_room, Behind, stayed_refused, stepped_fault, stepped_full, stepped_over, entering, stayed_rule, stepped_rule}
-use Rattle.reader.proofs.Calling.{number_some}
+use Rattle.limits.proofs.Numbers.{number_some}
 use Rattle.reader.proofs.RuleRows.rule.Goals.{After-rule_at}
 use Rattle.reader.proofs.RuleRows.rule.Goals as goal
 
+-- the bodies once the row from a place is handed back
+abbrev bodies_after : ℕ → List ℕ → List ℕ → List ℕ
+bodies_after at old row = put_mid at (at + body_words - at) old row
+
 behind : (c : After-rule_at)
-    → Behind (letters c.args.folding.now) c.args.text.now c.args.head.at (tables_in c.args.lexicon.now c.args.self.now)
-    c.row_after-at.result c.rule_at.new.bodies (number_in c.rule_at.result) (at_in c.rule_at.result) (room_in c.rule_at.result)
+    → Behind (letters c.args.source.now.folding.now) c.args.source.now.text.now c.args.head.at (tables_in c.args.lexicon.now c.args.self.now)
+    c.row_after-at.result (bodies_after c.row_after-at.result c.args.self.now.bodies.now c.rule_at.new.row) (number_in c.rule_at.result) (at_in c.rule_at.result) (room_in c.rule_at.result)
     (head_in c.rule_at.result) (held c.rule_at.new.lexicon)
 behind c =
+    let at = c.row_after-at.result in
+    let old = c.args.self.now.bodies.now in
+    let row = c.rule_at.new.row in
+    let room : at + body_words ≤ length old = omega (arith, c.row_after-at.ensures.within, c.requires.booked.1.bodies_long) in
+    let size : length row ≡ body_words = search rules in
     record {
-      law = c.requires.text_len_bound.2.1;
+      law = c.passes.ensures.1;
       closed = c.requires.line_ends.0;
       loud = c.requires.line_ends.1;
       clauses = c.requires.booked.0;
       booked = c.requires.booked.1;
       in_area = c.row_after-at.ensures.within;
       own = c.row_after-at.ensures.own;
-      as_long = c.rule_at.auto.bodies;
-      rows = c.rule_at.ensures.row;
-      said = c.rule_at.ensures.said;
+      as_long = back_long at body_words old row _ room size refl;
+      rows = back_in at body_words old row _ room size refl;
+      said = rw (back_row at body_words old row _ room size refl) c.rule_at.ensures.said;
     }
 
 pub returns-in_err-found : goal.returns-in_err-found
@@ -64,7 +80,7 @@ overflow_cast-self c =
 pub next_line-requires : goal.next_line-requires
 next_line-requires c =
     let e = c.in_ok-found.ensures in
-    end_room c.args.text.now c.args.head.at c.args.head.line _ _ c.requires.line_ends.0 c.requires.text_len_bound.0 c.requires.text_len_bound.1
+    end_room c.args.source.now.text.now c.args.head.at c.args.head.line _ _ c.requires.line_ends.0 c.args.source.now.within c.requires.place
     (e.said.ends refl) e.line
 
 pub returns : goal.returns

@@ -1,17 +1,8 @@
--- `writer::put::put_rest` meets its contract. The loop's invariant: the names from the stop on are left to put. Assumes nothing.
-use Prim.Native.Nat.{◌-◌, ◌≤◌}
-use Rattle.limits.specs.Book.{names}
-use Rattle.writer.specs.Spelt.{names_past}
-use Rattle.writer.proofs.Lines.{after}
-use Rattle.writer.proofs.Pages.{Left}
+-- `writer::put::put_rest` meets its contract. The loop's invariant: the names that the walk has before it are left to put. Assumes nothing.
+use Rattle.rows.specs.Members.{left}
+use Rattle.copying.proofs.Texts.{Left}
+use Rattle.writer.specs.Spelt.{rest}
 use Rattle.writer.proofs.put.put_rest.Given as goal
 
 abbrev pub invariant-loop-a : goal.invariant-loop-a
-invariant-loop-a l = record {
-  low : l.a ≤ names;
-  left : Left l.initial.page l.page (names_past l.lent.area l.lent.count l.body l.from)
-      (after l.lent.area l.lent.count l.body l.a);
-}
-
-abbrev pub decreases-loop-a : goal.decreases-loop-a
-decreases-loop-a l = names - l.a
+invariant-loop-a l = Left l.initial.text (rest l.lent (left l.members)) (rest l.lent (left l.a-iterator)) l.text

@@ -1,11 +1,12 @@
--- The lines from the stop on are left to put. Assumes nothing.
-use Prim.Native.Nat.{◌-◌, ◌*◌}
-use Rattle.limits.specs.Book.{word_bits, row_words}
-use Rattle.listing.proofs.Lines.{Onward}
+-- The lines of the names past those that the loop has come to are left to put. Assumes nothing.
+use lib.ListN.{length, drop}
+use Rattle.grammar.specs.Grammar.{joined}
+use Rattle.solving.specs.Listing.{held_names}
+use Rattle.copying.proofs.Texts.{Left}
+use Rattle.listing.specs.Names.{spelt, held}
 use Rattle.listing.proofs.names.Names.put.Given as goal
 
 abbrev pub invariant-loop-a : goal.invariant-loop-a
-invariant-loop-a l = Onward l.self l.initial.text l.a l.text
-
-abbrev pub decreases-loop-a : goal.decreases-loop-a
-decreases-loop-a l = row_words * word_bits - l.a
+invariant-loop-a l =
+    Left l.initial.text (joined (held_names (spelt l.self) (held l.self)))
+    (joined (drop (length l.yielded) (held_names (spelt l.self) (held l.self)))) l.text

@@ -23,7 +23,7 @@ loop-i-preserved c =
       place = search rules;
       ends = on (name_byte fold) t i _ c.loop-i-test.true name before.ends;
       small = mod-lt _ (omega arith);
-      bucket = hash_on fold t i _ _ before.bucket _ c.loop-i-test.true c.fold-b.ensures name;
+      bucket = rw c.from.ensures (hash_on fold t i _ _ before.bucket _ c.loop-i-test.true c.fold-b.ensures name);
     }
 
 -- past the text or at a byte of no name, the run is at its end
