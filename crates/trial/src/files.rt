@@ -25,7 +25,8 @@ fn take<R: Files + AllocGlobal + Eprint, W: Write>(
     Ok(text)
 }
 
-// Hands each file that an argument names to `show`, by its name and what is read of it.
+// Hands each file that an argument names to `show`, by its name and what is read of it. It promises nothing: what is written is what
+// `show` writes, of files of which no clause says what they hold.
 pub fn each<R, W: Write, F>(rt: &R, out: &mut W, show: F) -> io::Result<()>
 where
     R: Env + Files + AllocGlobal + Eprint,

@@ -1,6 +1,12 @@
 // The areas that are lent: a mark in every entry that has no other value, and GUARD entries past the stated size.
-ghost use Rattle.std.specs.Prelude.{◌≡◌, ◌≤◌, ℕ, ◌%◌, ◌^◌, take, All};
+ghost use Rattle.std.specs.Prelude.{◌≡◌, ◌≤◌, ℕ, ◌%◌, ◌^◌, take, length, ◌<◌, slice_index, EachIndex, All};
 ghost use Rattle.std.specs.Io.{StartsWith};
+ghost use Rattle.limits.specs.Refusal.{number_in, refused_number, refused_line, count_in};
+ghost use Rattle.grammar.specs.Bytes.{our_letters};
+ghost use Rattle.tables.specs.Areas.{read_call};
+ghost use Rattle.tables.specs.Writing.{write_call};
+ghost use Rattle.solving.specs.Solve.{solve_call};
+ghost use Rattle.solver.specs.Lent.{answer_in};
 
 use areas::Entry;
 use limits::{Book, Counts, Refusal, Refused};
@@ -168,7 +174,11 @@ impl Tables {
     }
 
     // The areas whole.
-    pub fn whole(&mut self) -> LentTables<'_> {
+    pub fn whole(&mut self) -> LentTables<'_>
+        ensures spellings { StartsWith self.old.spellings result.spellings.now }
+        ensures heads { StartsWith self.old.heads result.heads.now }
+        ensures bodies { StartsWith self.old.bodies result.bodies.now }
+    {
         self.lend(|_, _| usize::MAX)
     }
 }
@@ -285,17 +295,35 @@ impl Areas {
 }
 
 impl LentTables<'_> {
-    pub fn read(&mut self, text: &[u8], letters: &[u8]) -> Result<Counts, Refused> {
+    pub fn read(&mut self, text: &[u8], letters: &[u8]) -> Result<Counts, Refused>
+        ensures { record {
+          answer = record {
+            number = refused_number result;
+            line = refused_line result;
+            names = count_in (λ c. c.names) result;
+            rules = count_in (λ c. c.rules) result;
+          };
+          areas = record { spellings = self.new.spellings.now; heads = self.new.heads.now; bodies = self.new.bodies.now };
+        } ≡ read_call letters.now text.now
+            (record { spellings = self.old.spellings.now; heads = self.old.heads.now; bodies = self.old.bodies.now }) }
+    {
         reader::read(text, letters, self.spellings, self.heads, self.bodies)
     }
 
     // Writes a book's tables, and returns the length of the text. The counts are no part of the tables: others are lent with the same tables.
-    pub fn write(&self, letters: &[u8], book: Counts, text: &mut [u8]) -> Result<usize, Refusal> {
+    pub fn write(&self, letters: &[u8], book: Counts, text: &mut [u8]) -> Result<usize, Refusal>
+        ensures { record { number = number_in result; size = count_in (λ size. size) result; text = text.new }
+            ≡ write_call letters.now
+            (record { spellings = self.now.spellings.now; heads = self.now.heads.now; bodies = self.now.bodies.now })
+            book.names book.rules text.old }
+    {
         writer::write(self.spellings, self.heads, self.bodies, letters, book, text)
     }
 
     // The bodies of the first m rules become all names.
-    pub fn fill_bodies(&mut self, m: usize) {
+    pub fn fill_bodies(&mut self, m: usize)
+        ensures { length self.new.bodies.now ≡ length self.old.bodies.now }
+    {
         for body in self.bodies.chunks_mut(Book::BODY_WORDS).take(m) {
             body.fill(u64::MAX);
         }
@@ -310,7 +338,34 @@ fn solve(
     tables: &mut LentTables,
     rows: &mut LentRows,
     listing: &mut [u8],
-) -> Result<Solved, Refused> {
+) -> Result<Solved, Refused>
+    ensures { record {
+      answer = answer_in result;
+      areas = record {
+        tables = record {
+          spellings = tables.new.spellings.now;
+          heads = tables.new.heads.now;
+          bodies = tables.new.bodies.now;
+        };
+        all = rows.new.all.now;
+        any = rows.new.any.now;
+        spare = rows.new.spare.now;
+        model = rows.new.model.now;
+        listing = listing.new;
+      };
+    } ≡ solve_call letters.now text.now folds (record {
+      tables = record {
+        spellings = tables.old.spellings.now;
+        heads = tables.old.heads.now;
+        bodies = tables.old.bodies.now;
+      };
+      all = rows.old.all.now;
+      any = rows.old.any.now;
+      spare = rows.old.spare.now;
+      model = rows.old.model.now;
+      listing = listing.old;
+    }) }
+{
     solver::solve(
         text,
         letters,
@@ -327,7 +382,34 @@ fn solve(
 }
 
 impl Lent<'_> {
-    pub fn solve(&mut self, text: &[u8], letters: &[u8], folds: usize) -> Result<Solved, Refused> {
+    pub fn solve(&mut self, text: &[u8], letters: &[u8], folds: usize) -> Result<Solved, Refused>
+        ensures { record {
+          answer = answer_in result;
+          areas = record {
+            tables = record {
+              spellings = self.new.tables.spellings.now;
+              heads = self.new.tables.heads.now;
+              bodies = self.new.tables.bodies.now;
+            };
+            all = self.new.rows.all.now;
+            any = self.new.rows.any.now;
+            spare = self.new.rows.spare.now;
+            model = self.new.rows.model.now;
+            listing = self.new.listing.now;
+          };
+        } ≡ solve_call letters.now text.now folds (record {
+          tables = record {
+            spellings = self.old.tables.spellings.now;
+            heads = self.old.tables.heads.now;
+            bodies = self.old.tables.bodies.now;
+          };
+          all = self.old.rows.all.now;
+          any = self.old.rows.any.now;
+          spare = self.old.rows.spare.now;
+          model = self.old.rows.model.now;
+          listing = self.old.listing.now;
+        }) }
+    {
         solve(
             text,
             letters,
@@ -339,9 +421,13 @@ impl Lent<'_> {
     }
 }
 
-// Our letters, entry by entry, as far as there is room.
-pub fn letters(entries: &mut [u8]) {
-    for (entry, b) in entries.iter_mut().zip(0..=u8::MAX) {
-        *entry = scan::table::letter(b);
+// Our letters, entry by entry, as far as there is room. Over `entries.iter_mut().zip(0..=u8::MAX)` nothing is known of what the entries end as.
+pub fn letters(entries: &mut [u8])
+    ensures { EachIndex entries.new (λ k. k < 256 → slice_index entries.new k ≡ our_letters k) }
+{
+    for (place, entry) in entries.iter_mut().enumerate() {
+        if let Ok(b) = u8::try_from(place) {
+            *entry = scan::table::letter(b);
+        }
     }
 }

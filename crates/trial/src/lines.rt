@@ -1,5 +1,5 @@
 // A file in parts: each begins with a title, a line that begins with `#`.
-ghost use Rattle.std.specs.Prelude.{◌≤◌, ◌<◌, length};
+ghost use Rattle.std.specs.Prelude.{◌≡◌, ◌≤◌, ◌<◌, length};
 
 const TITLE: u8 = b'#';
 
@@ -43,7 +43,9 @@ pub struct Parts<'a> {
 }
 
 impl<'a> Parts<'a> {
-    pub fn of(text: &'a [u8]) -> Parts<'a> {
+    pub fn of(text: &'a [u8]) -> Parts<'a>
+        ensures { result.rest.now ≡ text.now }
+    {
         Parts { rest: text }
     }
 }

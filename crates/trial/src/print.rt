@@ -1,5 +1,5 @@
-// Bytes and checksums, for a writer that is lent. Each but `solved` and `listing` says what the writer then holds, where its type says what it holds.
-ghost use Rattle.std.specs.Prelude.{◌≡◌, OnOk, [], ◌∷◌, ◌++◌, decimal, not, ◌==◌, take_while};
+// Bytes and checksums, for a writer that is lent. Each but `solved` says what the writer then holds, where its type says what it holds.
+ghost use Rattle.std.specs.Prelude.{◌≡◌, ◌≤◌, ◌<◌, OnOk, IfOk, IfErr, [], ◌∷◌, ◌++◌, decimal, not, ◌==◌, take_while};
 ghost use Rattle.std.specs.Io.KnownBytes.{Appends};
 ghost use Rattle.checksum.specs.Total.{total, total_by};
 ghost use Rattle.limits.specs.Refusal.{number_in, refused_number, refused_line, count_in};
@@ -168,7 +168,12 @@ pub fn listing<W: Write>(
     out: &mut W,
     answer: &Result<Solved, Refused>,
     lent: &Lent,
-) -> io::Result<()> {
+) -> io::Result<()>
+    ensures few { IfOk answer.now (λ r. r.atoms ≤ 12 →
+        OnOk result (Appends (W.contents out.old) (W.contents out.new) (take_while (λ b. not (b == 0)) lent.now.listing.now))) }
+    ensures many { IfOk answer.now (λ r. 12 < r.atoms → W.contents out.new ≡ W.contents out.old) }
+    ensures refused { IfErr answer.now (λ e. W.contents out.new ≡ W.contents out.old) }
+{
     if let Ok(r) = answer
         && r.atoms <= FEW
     {
