@@ -151,7 +151,7 @@ pub fn solve(
     model: &mut [u64],
     listing: &mut [u8],
 ) -> Result<Solved, Refused>
-    ensures { record {
+    ensures solved { record {
       answer = answer_in result;
       areas = record {
         tables = record { spellings = spellings.new; heads = heads.new; bodies = bodies.new };
@@ -169,6 +169,7 @@ pub fn solve(
       model = model.old;
       listing = listing.old;
     }) }
+    ensures end { count_in (λ s. s.end) result ≡ listed_end (refused_number result) (book_of (letters table.now) text.now) folds }
 {
     let areas = Areas {
         spellings,
