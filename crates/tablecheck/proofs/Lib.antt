@@ -2,4 +2,5 @@ pub mod Words
 pub mod Spelling
 pub mod Meeting
 pub mod Turns
+pub mod Alike
 pub mod Formed

@@ -15,6 +15,9 @@ use limits::Book;
 use rows::row::nth;
 use scan::letters::Letters;
 
+// How many bytes of two names are compared one by one before the names are cut out whole.
+const FIRST_BYTES: usize = 8;
+
 // Whether a byte is a name byte that is its own entry.
 #[tactic(auto, unfolding(tables::specs::Writing::own, tables::specs::Areas::nonzero))]
 fn is_own(b: u8, folding: &Letters<'_>) -> bool
@@ -77,12 +80,23 @@ impl<'a> NameArea<'a> {
         (0..self.count).all(|a| self.good_name(a, folding))
     }
 
-    // Whether names a and b are the same.
+    // Whether names a and b are the same. Every two names are compared, and most differ in their first bytes: those decide alone where they can.
+    // With both names cut out whole in each case the writer took up to six times the instructions.
     #[tactic(auto, using(crate::proofs::Words::same_bytes_is))]
     pub fn same_name(&self, a: usize, b: usize) -> bool
         requires { (a < names) × (b < names) }
         ensures { result ≡ same_bytes (name_at self.now.area a) (name_at self.now.area b) }
     {
+        let x = self.name_row(a);
+        let y = self.name_row(b);
+        for k in 0..FIRST_BYTES {
+            if x[k] != y[k] {
+                return false;
+            }
+            if x[k] == 0 {
+                return true;
+            }
+        }
         self.name(a) == self.name(b)
     }
 
