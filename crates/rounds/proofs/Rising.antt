@@ -46,7 +46,7 @@ module _ (o : RowAreas) (m : ℕ) (formed : formed_system o m ≡ true) where
   few = order.0
 
   -- the start set has nothing at or past the count
-  start_ends : Ends m (model_in o.model)
+  pub start_ends : Ends m (model_in o.model)
   start_ends k l = either (model_in o.model k) (λ t. absurd (omega (arith, order.3 k t))) (λ t. t)
 
   -- what a round makes of a set

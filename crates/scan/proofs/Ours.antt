@@ -2,7 +2,7 @@
 -- Assumes nothing.
 use mathlib.Core.Path.{◌≡◌, refl, sym, ap, ◌∙◌}
 use mathlib.Core.Bool.{Bool, true}
-use mathlib.Core.List.{List, []}
+use mathlib.Core.List.{List}
 use Prim.Native.Nat.{ℕ, suc, ◌+◌, ◌-◌, ◌≤◌, ◌<◌}
 use native.Mathlib.Omega.{arith}
 use lib.Dec.{eqb}
@@ -14,9 +14,10 @@ use Rattle.sets.specs.Set.{pick, every}
 use Rattle.sets.proofs.Tests.{every_at}
 use Rattle.areas.specs.Area.{put, begun, cleared}
 use Rattle.areas.proofs.Parts.{put_none, put_set}
-use Rattle.areas.proofs.Begun.{begun_whole}
 use Rattle.grammar.specs.Bytes.{small, our_letters}
 use Rattle.grammar.specs.Letters.{entries_from, our_table}
+use Rattle.grammar.specs.Fill.{fill_call}
+use Rattle.grammar.proofs.Fill.{fill_long, fill_whole}
 
 -- what is computed to be document 01's entry at each of n bytes from lo on is its entry there
 pub ours_between : (lo n : ℕ) (value : ℕ → ℕ) → every n (λ i. eqb (value (lo + i)) (our_letters (lo + i))) ≡ true
@@ -121,10 +122,20 @@ pub ranges_ours : (old : List ℕ)
 unfolding begun our_table entries_from our_letters small pick
 ranges_ours old = refl
 
--- So zeros that are filled in this order are our table.
+-- So an area that is cleared and filled in this order is what the call leaves.
+pub fill_done : (old : List ℕ) {zeros capitals letters digits signs all : List ℕ} → letter_bytes ≤ length old → zeros ≡ cleared 0 letter_bytes old
+    → capitals ≡ ranged 65 90 32 zeros → letters ≡ ranged 97 122 0 capitals → digits ≡ ranged 48 57 0 letters → signs ≡ ranged 45 46 0 digits
+    → all ≡ ranged 95 95 0 signs → record { number = 0; area = all } ≡ fill_call old
+fill_done old l a b c d e f =
+    ap (λ (t : List ℕ). record { number = 0; area = t })
+    (f ∙ ap (ranged 95 95 0) (e ∙ ap (ranged 45 46 0) (d ∙ ap (ranged 48 57 0) (c ∙ ap (ranged 97 122 0) (b ∙ ap (ranged 65 90 32) a))))
+    ∙ ranges_ours old)
+    ∙ sym (fill_long old l)
+
+-- And zeros that are filled in this order are our table.
 pub laid : {zeros capitals letters digits signs all : List ℕ} → zeros ≡ replicate letter_bytes 0
     → capitals ≡ ranged 65 90 32 zeros → letters ≡ ranged 97 122 0 capitals → digits ≡ ranged 48 57 0 letters → signs ≡ ranged 45 46 0 digits
     → all ≡ ranged 95 95 0 signs → all ≡ our_table
 laid a b c d e f =
-    f ∙ ap (ranged 95 95 0) (e ∙ ap (ranged 45 46 0) (d ∙ ap (ranged 48 57 0) (c ∙ ap (ranged 97 122 0) (b ∙ ap (ranged 65 90 32) a))))
-    ∙ ranges_ours [] ∙ begun_whole our_table [] (omega arith)
+    let none : List ℕ = replicate letter_bytes 0 in
+    fill_whole none refl _ (fill_done none (omega arith) a b c d e f)
