@@ -2,8 +2,12 @@
 #![tactic(auto)]
 
 ghost use Rattle.std.specs.Prelude.{◌≡◌};
+ghost use Rattle.limits.specs.Book.{row_words};
 ghost use Rattle.limits.specs.Refusal.{number_in, count_in};
+ghost use Rattle.sets.specs.Set.{union};
+ghost use Rattle.words.specs.Row.{row, pack};
 ghost use Rattle.solving.specs.Plain.{plain_call};
+ghost use Rattle.plain.specs.Step.{heads_from};
 
 use limits::{Book, Counts, Refusal};
 use rounds::turns::{Round, until_still};
@@ -23,6 +27,21 @@ struct Route<'a> {
     rules: Rules<'a>,
 }
 
+impl<'a> Route<'a> {
+    // The heads of the rules whose body lies in v join `next`.
+    fn join(&self, v: &[u64; Book::ROW_WORDS], next: &mut [u64; Book::ROW_WORDS])
+        ensures { next.new ≡ pack row_words
+            (union (row next.old) (heads_from self.now.rules.tables self.now.rules.counts.rules (row v.now))) }
+    {
+        for j in 0..self.rules.rules() {
+            let holds = row::within(self.rules.body(j), &v[..Book::BODY_WORDS]);
+            if holds {
+                row::insert(next, self.rules.head(j));
+            }
+        }
+    }
+}
+
 // A round makes of a set the heads of the rules whose body lies in it.
 impl<'a> Round for Route<'a> {
     ghost use Rattle.plain.specs.Step.{heads_from};
@@ -33,12 +52,7 @@ impl<'a> Round for Route<'a> {
 
     fn step(&self, v: &[u64; Book::ROW_WORDS]) -> [u64; Book::ROW_WORDS] {
         let mut next = [0; Book::ROW_WORDS];
-        for j in 0..self.rules.rules() {
-            let holds = row::within(self.rules.body(j), &v[..Book::BODY_WORDS]);
-            if holds {
-                row::insert(&mut next, self.rules.head(j));
-            }
-        }
+        self.join(v, &mut next);
         next
     }
 }
