@@ -3,7 +3,7 @@
 use mathlib.Core.Path.{◌≡◌, sym, ap, ap₂, ◌∙◌}
 use mathlib.Core.List.{List, [], ◌++◌}
 use mathlib.Core.Bool.{true}
-use Prim.Native.Nat.{ℕ, suc, ◌+◌, ◌*◌, ◌≤◌, ◌<◌}
+use Prim.Native.Nat.{ℕ, suc, ◌+◌, ◌-◌, ◌*◌, ◌≤◌, ◌<◌}
 use native.Mathlib.Nat.{le_trans}
 use native.Mathlib.Omega.{arith}
 use lib.ListN.{length, take, drop, replicate, length-replicate}
@@ -101,6 +101,11 @@ module _ (w n m : ℕ) (all : List ℕ) (l : m ≤ n) (b : n ≤ w * word_bits) 
 pub folds_end : (d k m : ℕ) (all now : List ℕ) → now ≡ folded_rows row_words d m all → d ≡ k → now ≡ folded_area k m all
 unfolding folded_area
 folds_end d k m all now e q = e ∙ ap (λ (x : ℕ). folded_rows row_words x m all) q
+
+-- the words of the rows cleared in a spare that is as it was past them
+pub spare_zeros : (v u : ℕ) (old spare new : List ℕ) → u ≡ v → drop v spare ≡ drop v old → new ≡ cleared 0 u spare → new ≡ cleared 0 v old
+spare_zeros v u old spare new k e p =
+    p ∙ ap (λ (n : ℕ). cleared 0 n spare) k ∙ ap (λ (xs : List ℕ). replicate (v - 0) 0 ++ xs) e
 
 -- the spare cleared, over the words of the rows and then past them, where it is as it was
 module _ (size v u : ℕ) (old spare mid : List ℕ) (k : u ≡ v) (l : v ≤ size) (e : drop v spare ≡ drop v old) (p : mid ≡ cleared 0 u spare) where

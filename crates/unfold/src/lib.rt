@@ -1,11 +1,11 @@
 // The public call that folds rows, each fold from the rows before it, by turns into the spare and back; and its work without the tests.
 #![tactic(auto)]
 
-ghost use Rattle.std.specs.Prelude.{◌≡◌, true, ◌&&◌, [], ◌+◌, ◌*◌, ◌<◌, ◌≤◌, length, drop};
+ghost use Rattle.std.specs.Prelude.{◌≡◌, true, ◌&&◌, [], ◌+◌, ◌*◌, ◌<◌, ◌≤◌, length};
 ghost use Rattle.limits.specs.Book.{atoms, folds, word_bits, row_words, row_area};
 ghost use Rattle.limits.specs.Refusal.{number_in};
 ghost use Rattle.sets.specs.Set.{exists, union};
-ghost use Rattle.areas.specs.Area.{begun, filled, Clear};
+ghost use Rattle.areas.specs.Area.{begun, filled, cleared, Clear};
 ghost use Rattle.words.specs.Row.{bit, row, pack};
 ghost use Rattle.program.specs.System.{unfold_once};
 ghost use Rattle.systems.specs.Rows.{row_in, packed, formed_rows};
@@ -77,27 +77,27 @@ impl<'a> Rows<'a> {
     }
 }
 
-// k folds of the first count rows by turns into the spare and back; no row is copied but after an odd number of them. What the spare has past
-// the rows is left.
+// k folds of the first count rows by turns into the spare and back; no row is copied but after an odd number of them. The rows of the spare are
+// zero then; what it has past them is left.
 // The areas stay two parameters, here and in `fold_formed`: a struct of two `&mut` areas needs one clause more at each function that takes it, that
 // they stay the same areas.
 fn fold_turns(all: &mut [u64], spare: &mut [u64], count: usize, k: usize)
     requires { (count ≤ atoms) × (k ≤ folds) × (row_area ≤ length all.old) × (row_area ≤ length spare.old)
         × (formed_rows row_words atoms count all.old ≡ true) }
     ensures all { all.new ≡ folded_area k count all.old }
-    ensures spare { drop (count * row_words) spare.new ≡ drop (count * row_words) spare.old }
+    ensures spare { spare.new ≡ cleared 0 (count * row_words) spare.old }
 {
     for _ in 0..k / 2 {
         Rows { words: all }.fold(spare, count);
         Rows { words: spare }.fold(all, count);
     }
-    let even = k % 2 == 0;
-    if even {
-        return;
-    }
-    Rows { words: all }.fold(spare, count);
     let used = Book::row_at(count);
-    all[..used].copy_from_slice(&spare[..used]);
+    let odd = k % 2 == 1;
+    if odd {
+        Rows { words: all }.fold(spare, count);
+        all[..used].copy_from_slice(&spare[..used]);
+    }
+    clear(spare, 0, used);
 }
 
 // k folds of the first count rows, after which the spare is zero. For a caller that knows its rows to be in order, as after standardising:
@@ -111,9 +111,7 @@ pub fn fold_formed(all: &mut [u64], spare: &mut [u64], count: usize, k: usize, f
     ensures spare { spare.new ≡ filled row_area [] spare.old }
 {
     fold_turns(all, spare, count, k);
-    let unused = Book::row_at(count);
-    clear(spare, 0, unused);
-    clear_stale(spare, unused, Book::ROW_AREA, fresh);
+    clear_stale(spare, Book::row_at(count), Book::ROW_AREA, fresh);
 }
 
 // Judges the rows of count atoms, makes k folds of them, and clears the spare; a refusal leaves all as it was.
