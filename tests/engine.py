@@ -14,10 +14,10 @@ import sys
 from figures import ATOMS, BODY_AREA, BODY_WORDS, LETTER_BYTES, MARK, NAME_AREA, NAME_BYTES, NAMES, RULES, TEXT_BYTES, WORD_BITS, Refusal
 
 ROOT = os.path.join(os.path.dirname(os.path.abspath(__file__)), "..")
-# what the areas of the test programs hold before a call, the entries that they lend past the stated sizes, and up to how many atoms they print rows
-# and listings whole: the figures of crates/trial
+# what the areas of the test programs hold before a call, the entries that they lend past the stated sizes, up to how many atoms they print rows and
+# listings whole, and how large a file they read: the figures of crates/trial
 JUNK8, JUNK16, JUNK64, GUARD = 165, 4660, 81985529216486895, 4
-FEW = 12
+FEW, INPUT = 12, 65536
 MOST = 2**64 - 1
 
 

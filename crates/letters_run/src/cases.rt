@@ -2,7 +2,7 @@
 // begins with the number of its tables and with so many parts. A case is a part with its title; the number of the table under which it is read
 // and solved, of the one under which it is written, of folds, and of what is changed; and a part with its text, or with what an area holds that
 // is to be filled. A file may be cut off anywhere.
-ghost use Rattle.std.specs.Prelude.{◌≤◌, length};
+ghost use Rattle.std.specs.Prelude.{◌<◌, ◌≤◌, length};
 
 use crate::calls::Change;
 use crate::{calls, ours};
@@ -11,7 +11,8 @@ use std::io::Write;
 
 // The part at the front of a file, as far as it goes, and what comes after it.
 fn part(file: &[u8]) -> (&[u8], &[u8])
-    ensures { length result.1.now ≤ length file.now }
+    ensures within { length result.1.now ≤ length file.now }
+    ensures less { 0 < length file.now → length result.1.now < length file.now }
 {
     let [high, low, rest @ ..] = file else {
         return (&[], &[]);

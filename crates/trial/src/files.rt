@@ -1,4 +1,7 @@
 // The files of data/, which arguments name.
+ghost use Rattle.std.specs.Prelude.{◌≤◌, IfOk};
+ghost use Rattle.std.specs.Vec.{vec_len};
+
 use std::env::Env;
 use std::fs::{File, Files};
 use std::io::{Read, Write};
@@ -13,7 +16,9 @@ fn take<R: Files + AllocGlobal + Eprint, W: Write>(
     rt: &R,
     out: &mut W,
     path: &str,
-) -> io::Result<Vec<u8>> {
+) -> io::Result<Vec<u8>>
+    ensures { IfOk result (λ text. vec_len text ≤ 65536) }
+{
     let mut text = Vec::new(rt.alloc());
     match File::open(rt, path) {
         Ok(file) => {
@@ -22,6 +27,8 @@ fn take<R: Files + AllocGlobal + Eprint, W: Write>(
         }
         Err(e) => eprintln!(rt; "{path}: {e}")?,
     }
+    // There are no more: the library's call does not say so. The limit goes by `as`, since there is no `From` between the two types.
+    text.truncate(INPUT as usize);
     Ok(text)
 }
 
