@@ -25,7 +25,7 @@ extern "C" {
  * The release of this engine, as CHANGELOG.md counts them. The 0001 in a book's
  * mark and in a listing's head line is another thing: the version of the form.
  */
-#define DPB_RELEASE "4.0.0"
+#define DPB_RELEASE "4.0.1"
 
 /* Limits. At most this many: */
 #define DPB_TEXT_BYTES 16384 /* bytes in a book, its mark line included */
